@@ -1,0 +1,355 @@
+-- What the number 0 says of a log, field by field, and that its history is well formed. Assumes nothing.
+use Prim.Native.Nat.{ℕ, zero, suc, _+_, _*_, _≤_, _<_}
+use native.Mathlib.Omega.{arith}
+use native.Mathlib.Nat.{not-suc-le-zero}
+use mathlib.Core.Path.{_≡_, refl, sym, ap, subst, _∙_}
+use mathlib.Core.Logic.{_⊎_, inl, inr, ⊎-elim, _≢_}
+use mathlib.Core.Bool.{Bool, true, false, not, cond, _&&_, _||_}
+use mathlib.Core.List.{List, [], _∷_, _++_, map}
+use lib.Dec.{T, eqb, ltb, leb, eqb→eq, eqb·suc-zero, ltb→lt, nltb→le, lt→ltb, le→leb}
+use lib.ListN.{length, getD, length-append, List·getD-eq-default}
+use Rattle.model.specs.Lists.{implies, all, any, fold, upTo, All}
+use Rattle.model.specs.History.{History, Transaction, Operation, start, size, noTransaction, cabinetOf, operationsOf, isRead, isWrite, keysOnce, goodOperation, goodTransaction, operationCount, wellFormed}
+use Rattle.model.specs.Log.{byteAt, pairAt, transactionsIn, operationsIn, cabinetAt, countAt, startAt, countsBefore, bodyAt, kindAt, keyAt, argumentAt, orElse, firstNumber, entryNumber, seen, bodyNumber, bodiesNumber, loadNumber, operationAt, transactionAt, historyOf}
+use Rattle.model.proofs.Basics.{decide, clash, not-intro, and-l, and-r, and-in, or-out, or-l, or-r, implies-in, eq-T, eqb-ne, eq-eqb, ne-eqb, same?, true-eq, false-eq, all-in, any-upTo-in, upTo-in, All-imp, All-map-in, All-every}
+use Rattle.model.proofs.Words.{length-upTo, getD-upTo}
+use Rattle.model.proofs.Loops.{map-snoc, fold-snoc}
+use Rattle.model.proofs.Known.{Loadable}
+
+-- ---- the first number that is not 0
+
+pub or-else-out : (m n : ℕ) → orElse m n ≡ 0 → (m ≡ 0) × (n ≡ 0)
+or-else-out zero n e = (refl, e)
+or-else-out (suc m) n e =
+    let z : suc m ≡ 0 = sym (ap (λ b. cond b n (suc m)) (eqb·suc-zero m)) ∙ e in absurd (omega arith)
+
+pub or-else-none : (m n : ℕ) → m ≡ 0 → orElse m n ≡ n
+or-else-none m n e = ap (λ x. orElse x n) e
+
+pub or-else-some : (m n : ℕ) → m ≢ 0 → orElse m n ≡ m
+or-else-some zero n f = absurd (f refl)
+or-else-some (suc m) n f = ap (λ b. cond b n (suc m)) (eqb·suc-zero m)
+
+module _ (f : ℕ → ℕ) where
+  pub first-suc : (n : ℕ) → firstNumber f (suc n) ≡ orElse (firstNumber f n) (f n)
+  unfolding firstNumber
+  first-suc n = refl
+
+  pub first-none : firstNumber f 0 ≡ 0
+  unfolding firstNumber
+  first-none = refl
+
+  -- a further round that finds nothing
+  pub first-on : (n : ℕ) → firstNumber f n ≡ 0 → f n ≡ 0 → firstNumber f (suc n) ≡ 0
+  first-on n e g = first-suc n ∙ or-else-none (firstNumber f n) (f n) e ∙ g
+
+  -- what is found in round n stays
+  pub first-stop : (n m : ℕ) → n < m → firstNumber f n ≡ 0 → f n ≢ 0 → firstNumber f m ≡ f n
+  first-stop n zero l e g = absurd (not-suc-le-zero l)
+  first-stop n (suc m) l e g =
+      ⊎-elim
+      (λ (p : n ≡ m). first-suc m ∙ or-else-none (firstNumber f m) (f m) (ap (firstNumber f) (sym p) ∙ e) ∙ ap f (sym p))
+      (λ (p : n ≢ m).
+      let r = first-stop n m (omega arith) e g in
+      first-suc m ∙ or-else-some (firstNumber f m) (f m) (λ z. g (sym r ∙ z)) ∙ r)
+      (same? n m)
+
+  pub first-out : (n : ℕ) → firstNumber f n ≡ 0 → (i : ℕ) → i < n → f i ≡ 0
+  first-out zero e i l = absurd (not-suc-le-zero l)
+  first-out (suc n) e i l =
+      let p = or-else-out (firstNumber f n) (f n) (sym (first-suc n) ∙ e) in
+      ⊎-elim (λ (q : i ≡ n). ap f q ∙ p .1) (λ (q : i ≢ n). first-out n (p .0) i (omega arith)) (same? i n)
+
+-- ---- the tests of the load number
+
+skip : (a : Bool) (n x : ℕ) → cond a (suc n) x ≡ 0 → T (not a) × (x ≡ 0)
+skip true n x e = absurd (omega arith)
+skip false n x e = (tt, e)
+
+need : (a : Bool) (n x : ℕ) → cond a x (suc n) ≡ 0 → T a × (x ≡ 0)
+need true n x e = (tt, e)
+need false n x e = absurd (omega arith)
+
+nor : (a b : Bool) → T (not (a || b)) → T (not a) × T (not b)
+nor true b t = absurd t
+nor false b t = (tt, t)
+
+nand : (a b : Bool) → T (not (a && b)) → T a → T (not b)
+nand true b t s = t
+nand false b t s = absurd s
+
+pub record Loaded (b : List ℕ) : Type 0 where
+  pub few : transactionsIn b ≤ 32
+  pub many : operationsIn b ≤ 256
+  pub long : length b ≡ 4 + 4 * transactionsIn b + 4 * operationsIn b
+  pub cabinets : (t : ℕ) → t < transactionsIn b → cabinetAt b t ≤ 15
+  pub starts : (t : ℕ) → t < transactionsIn b → startAt b t ≡ countsBefore b t
+  pub sum : countsBefore b (transactionsIn b) ≡ operationsIn b
+  pub bodies : (t m : ℕ) → t < transactionsIn b → m < countAt b t → bodyNumber b (startAt b t) m ≡ 0
+
+pub record GoodEntry (b : List ℕ) (t : ℕ) : Type 0 where
+  pub cabinet : cabinetAt b t ≤ 15
+  pub start-is : startAt b t ≡ countsBefore b t
+
+pub good-entry : (b : List ℕ) (t : ℕ) → entryNumber b t ≡ 0 → GoodEntry b t
+unfolding entryNumber
+good-entry b t e =
+    let p = skip (ltb 15 (cabinetAt b t)) 3 (cond (eqb (startAt b t) (countsBefore b t)) 0 5) e in
+    let q = need (eqb (startAt b t) (countsBefore b t)) 4 0 (p .1) in
+    record { cabinet = nltb→le 15 (cabinetAt b t) (p .0); start-is = eqb→eq (startAt b t) (countsBefore b t) (q .0) }
+
+pub loaded : (b : List ℕ) → loadNumber b ≡ 0 → Loaded b
+unfolding loadNumber bodiesNumber
+loaded b e =
+    let n = transactionsIn b in
+    let c6 : ℕ = cond (eqb (countsBefore b n) (operationsIn b)) (firstNumber (bodiesNumber b) n) 6 in
+    let c4 : ℕ = orElse (firstNumber (entryNumber b) n) c6 in
+    let c3 : ℕ = cond (eqb (length b) (4 + 4 * n + 4 * operationsIn b)) c4 3 in
+    let p1 = skip (ltb (length b) 4) 0 (cond (ltb 32 n || ltb 256 (operationsIn b)) 2 c3) e in
+    let p2 = skip (ltb 32 n || ltb 256 (operationsIn b)) 1 c3 (p1 .1) in
+    let p3 = need (eqb (length b) (4 + 4 * n + 4 * operationsIn b)) 2 c4 (p2 .1) in
+    let p4 = or-else-out (firstNumber (entryNumber b) n) c6 (p3 .1) in
+    let p6 = need (eqb (countsBefore b n) (operationsIn b)) 5 (firstNumber (bodiesNumber b) n) (p4 .1) in
+    let small = nor (ltb 32 n) (ltb 256 (operationsIn b)) (p2 .0) in
+    record {
+      few = nltb→le 32 n (small .0);
+      many = nltb→le 256 (operationsIn b) (small .1);
+      long = eqb→eq (length b) (4 + 4 * n + 4 * operationsIn b) (p3 .0);
+      cabinets = λ t l. good-entry b t (first-out (entryNumber b) n (p4 .0) t l) .cabinet;
+      starts = λ t l. good-entry b t (first-out (entryNumber b) n (p4 .0) t l) .start-is;
+      sum = eqb→eq (countsBefore b n) (operationsIn b) (p6 .0);
+      bodies = λ t m l k. first-out (bodyNumber b (startAt b t)) (countAt b t) (first-out (bodiesNumber b) n (p6 .1) t l) m k;
+    }
+
+-- a body with the number 0
+pub record GoodBody (b : List ℕ) (first m : ℕ) : Type 0 where
+  pub kind : kindAt b (first + m) ≤ 1
+  pub key : keyAt b (first + m) ≤ 31
+  pub argument : T (implies (eqb (kindAt b (first + m)) 0) (ltb (argumentAt b (first + m)) (transactionsIn b) || eqb (argumentAt b (first + m)) start))
+  pub once : T (not (seen b first m (kindAt b (first + m)) (keyAt b (first + m))))
+  pub order : T (eqb (kindAt b (first + m)) 0) → T (not (seen b first m 1 (keyAt b (first + m))))
+
+pub good-body : (b : List ℕ) (first m : ℕ) → bodyNumber b first m ≡ 0 → GoodBody b first m
+unfolding bodyNumber
+good-body b first m e =
+    let i = first + m in
+    let rd = eqb (kindAt b i) 0 in
+    let lo = ltb (argumentAt b i) (transactionsIn b) in
+    let st = eqb (argumentAt b i) start in
+    let c11 : ℕ = cond (rd && seen b first m 1 (keyAt b i)) 11 0 in
+    let c10 : ℕ = cond (seen b first m (kindAt b i) (keyAt b i)) 10 c11 in
+    let c9 : ℕ = cond (rd && (not lo && not st)) 9 c10 in
+    let c8 : ℕ = cond (ltb 31 (keyAt b i)) 8 c9 in
+    let p7 = skip (ltb 1 (kindAt b i)) 6 c8 e in
+    let p8 = skip (ltb 31 (keyAt b i)) 7 c9 (p7 .1) in
+    let p9 = skip (rd && (not lo && not st)) 8 c10 (p8 .1) in
+    let p10 = skip (seen b first m (kindAt b i) (keyAt b i)) 9 c11 (p9 .1) in
+    let p11 = skip (rd && seen b first m 1 (keyAt b i)) 10 0 (p10 .1) in
+    record {
+      kind = nltb→le 1 (kindAt b i) (p7 .0);
+      key = nltb→le 31 (keyAt b i) (p8 .0);
+      argument = turn rd lo st (p9 .0);
+      once = p10 .0;
+      order = nand rd (seen b first m 1 (keyAt b i)) (p11 .0);
+    }
+  where
+    turn : (r l s : Bool) → T (not (r && (not l && not s))) → T (implies r (l || s))
+    turn true true s t = tt
+    turn true false true t = tt
+    turn true false false t = absurd t
+    turn false l s t = tt
+
+-- ---- bounds
+
+pub counts-suc : (b : List ℕ) (t : ℕ) → countsBefore b (suc t) ≡ countsBefore b t + countAt b t
+unfolding countsBefore
+counts-suc b t = refl
+
+pub counts-mono : (b : List ℕ) (s t : ℕ) → s ≤ t → countsBefore b s ≤ countsBefore b t
+counts-mono b s zero l = let e : s ≡ 0 = omega arith in omega (arith, ap (countsBefore b) e)
+counts-mono b s (suc t) l =
+    ⊎-elim (λ (e : s ≡ suc t). omega (arith, ap (countsBefore b) e))
+    (λ (e : s ≢ suc t). omega (arith, counts-mono b s t (omega arith), counts-suc b t)) (same? s (suc t))
+
+module _ (b : List ℕ) (ok : Loaded b) where
+  -- a transaction's bodies are among the N
+  pub within : (t : ℕ) → t < transactionsIn b → startAt b t + countAt b t ≤ operationsIn b
+  within t l = omega (arith, ok .starts t l, counts-suc b t, counts-mono b (suc t) (transactionsIn b) l, ok .sum)
+
+  pub body-in : (t m : ℕ) → t < transactionsIn b → m < countAt b t → bodyAt b (startAt b t + m) + 4 ≤ length b
+  body-in t m l k = omega (arith, within t l, ok .long)
+
+  pub entry-in : (t : ℕ) → t < transactionsIn b → 4 + 4 * t + 4 ≤ length b
+  entry-in t l = omega (arith, ok .long)
+
+  pub body-good : (t m : ℕ) → t < transactionsIn b → m < countAt b t → GoodBody b (startAt b t) m
+  body-good t m l k = good-body b (startAt b t) m (ok .bodies t m l k)
+
+-- ---- the history
+
+module _ (b : List ℕ) where
+  pub history-size : size (historyOf b) ≡ transactionsIn b
+  unfolding historyOf
+  history-size = length-upTo (transactionAt b) (transactionsIn b)
+
+  pub history-at : (t : ℕ) → t < transactionsIn b → getD (historyOf b) t noTransaction ≡ transactionAt b t
+  unfolding historyOf
+  history-at t l = getD-upTo (transactionAt b) noTransaction (transactionsIn b) t l
+
+  pub history-past : (t : ℕ) → transactionsIn b ≤ t → getD (historyOf b) t noTransaction ≡ noTransaction
+  history-past t l = List·getD-eq-default (historyOf b) noTransaction {n = t} (omega (arith, history-size))
+
+  -- operation m of transaction t
+  abbrev pub operationOf : ℕ → ℕ → Operation
+  operationOf t m = operationAt b (startAt b t + m)
+
+  pub operations-at : (t : ℕ) → t < transactionsIn b → operationsOf (historyOf b) t ≡ map (operationOf t) (upTo (countAt b t))
+  unfolding transactionAt
+  operations-at t l = ap (λ (x : Transaction). x .operations) (history-at t l)
+
+  pub operations-past : (t : ℕ) → transactionsIn b ≤ t → operationsOf (historyOf b) t ≡ []
+  operations-past t l = ap (λ (x : Transaction). x .operations) (history-past t l)
+
+  pub cabinet-at : (t : ℕ) → t < transactionsIn b → cabinetOf (historyOf b) t ≡ cabinetAt b t
+  unfolding transactionAt
+  cabinet-at t l = ap (λ (x : Transaction). x .cabinet) (history-at t l)
+
+-- ---- well formed
+
+-- a, a + 1, ..., n of them
+abbrev from : ℕ → ℕ → List ℕ
+from a zero = []
+from a (suc n) = a ∷ from (suc a) n
+
+from-snoc : (a n : ℕ) → from a (suc n) ≡ from a n ++ ((a + n) ∷ [])
+from-snoc a zero = let e : a ≡ a + 0 = omega arith in ap (λ x. x ∷ []) e
+from-snoc a (suc n) =
+    let e : suc a + n ≡ a + suc n = omega arith in
+    ap (λ l. a ∷ l) (from-snoc (suc a) n ∙ ap (λ x. from (suc a) n ++ (x ∷ [])) e)
+
+upTo-from : (n : ℕ) → upTo n ≡ from 0 n
+upTo-from zero = refl
+upTo-from (suc n) = let e : n ≡ 0 + n = omega arith in ap (λ l. l ++ (n ∷ [])) (upTo-from n) ∙ ap (λ x. from 0 n ++ (x ∷ [])) e ∙ sym (from-snoc 0 n)
+
+-- p may stand before o in a transaction
+abbrev mayPrecede : Operation → Operation → Bool
+mayPrecede p o = implies (eqb (p .key) (o .key)) (isRead p && isWrite o)
+
+once-from : (f : ℕ → Operation) (earlier : List Operation) (a n : ℕ)
+    → All (λ p. (j : ℕ) → a ≤ j → j < a + n → T (mayPrecede p (f j))) earlier
+    → ((i j : ℕ) → a ≤ i → i < j → j < a + n → T (mayPrecede (f i) (f j)))
+    → T (keysOnce earlier (map f (from a n)))
+unfolding keysOnce
+once-from f earlier a zero g p = tt
+once-from f earlier a (suc n) g p =
+    and-in (all (λ q. mayPrecede q (f a)) earlier) (keysOnce (f a ∷ earlier) (map f (from (suc a) n)))
+    (all-in (λ q. mayPrecede q (f a)) earlier
+    (All-imp (λ q. (j : ℕ) → a ≤ j → j < a + suc n → T (mayPrecede q (f j))) (λ q. T (mayPrecede q (f a))) (λ q r. r a (omega arith) (omega arith)) earlier g))
+    (once-from f (f a ∷ earlier) (suc a) n (
+      (λ j l k. p a j (omega arith) (omega arith) (omega arith)),
+      All-imp (λ q. (j : ℕ) → a ≤ j → j < a + suc n → T (mayPrecede q (f j))) (λ q. (j : ℕ) → suc a ≤ j → j < suc a + n → T (mayPrecede q (f j)))
+          (λ q r j l k. r j (omega arith) (omega arith)) earlier g,
+    )
+    (λ i j l k q. p i j (omega arith) k (omega arith)))
+
+-- every element of a list of numbers below 256
+abbrev pub Bytes : List ℕ → Type 0
+Bytes b = (i : ℕ) → byteAt b i < 256
+
+pub pair-lt : (b : List ℕ) → Bytes b → (i : ℕ) → pairAt b i < 65536
+unfolding pairAt
+pair-lt b small i = omega (arith, small i, small (i + 1))
+
+kinds : (x : ℕ) → x ≤ 1 → T (not (eqb x 0)) → T (eqb x 1)
+kinds zero l t = absurd t
+kinds (suc zero) l t = tt
+kinds (suc (suc x)) l t = absurd (omega arith)
+
+module _ (b : List ℕ) (ok : Loaded b) where
+  precede : (t : ℕ) → t < transactionsIn b → (i j : ℕ) → i < j → j < countAt b t → T (mayPrecede (operationOf b t i) (operationOf b t j))
+  unfolding seen
+  precede t l i j k m =
+      implies-in (eqb (keyAt b (startAt b t + i)) (keyAt b (startAt b t + j))) (rd i && eqb (kind j) 1)
+      (λ same.
+      let hit : (x : ℕ) → T (eqb (kind i) x) → T (seen b (startAt b t) j x (keyAt b (startAt b t + j))) =
+      λ x e. any-upTo-in (λ p. eqb (kind p) x && eqb (keyAt b (startAt b t + p)) (keyAt b (startAt b t + j))) j i k (and-in (eqb (kind i) x) (eqb (keyAt b (startAt b t + i)) (keyAt b (startAt b t + j))) e same) in
+      let gi = body-good b ok t i l (omega arith) in
+      let gj = body-good b ok t j l m in
+      -- j is no read: an earlier read would be a second one, an earlier write would be a write before it
+      let wj : T (eqb (kind j) 1) = kinds (kind j) (gj .kind) (not-intro (rd j) (λ r.
+      ⊎-elim (λ ri. clash (seen b (startAt b t) j (kind j) (keyAt b (startAt b t + j))) (hit (kind j) (eq-eqb (eqb→eq (kind i) 0 ri ∙ sym (eqb→eq (kind j) 0 r)))) (gj .once))
+      (λ ri. clash (seen b (startAt b t) j 1 (keyAt b (startAt b t + j))) (hit 1 (kinds (kind i) (gi .kind) ri)) (gj .order r))
+      (decide (rd i)))) in
+      and-in (rd i) (eqb (kind j) 1)
+      (⊎-elim (λ ri. ri)
+      (λ ri. absurd (clash (seen b (startAt b t) j (kind j) (keyAt b (startAt b t + j))) (hit (kind j) (eq-eqb (eqb→eq (kind i) 1 (kinds (kind i) (gi .kind) ri) ∙ sym (eqb→eq (kind j) 1 wj)))) (gj .once)))
+      (decide (rd i)))
+      wj)
+    where
+      kind : ℕ → ℕ
+      kind x = kindAt b (startAt b t + x)
+
+      rd : ℕ → Bool
+      rd x = eqb (kind x) 0
+
+count-upto : (b : List ℕ) (n : ℕ) → operationCount (map (transactionAt b) (upTo n)) ≡ countsBefore b n
+unfolding transactionAt countsBefore
+count-upto b zero = refl
+count-upto b (suc n) =
+    ap operationCount (map-snoc (transactionAt b) (upTo n) n)
+    ∙ fold-snoc (λ m (t : Transaction). m + length (t .operations)) 0 (map (transactionAt b) (upTo n)) (transactionAt b n)
+    ∙ omega (arith, count-upto b n, length-upTo (operationOf b n) (countAt b n))
+
+good-operation : (b : List ℕ) → Bytes b → (n first m : ℕ) → n ≡ transactionsIn b → GoodBody b first m → T (goodOperation n (operationAt b (first + m)))
+unfolding goodOperation
+good-operation b small n first m e g =
+    let i = first + m in
+    let a = argumentAt b i in
+    let named = implies (eqb (kindAt b i) 0) (ltb a n || eqb a start) in
+    and-in (ltb (kindAt b i) 2) (ltb (keyAt b i) 32 && (ltb a 65536 && named)) (lt→ltb (kindAt b i) 2 (omega (arith, g .kind)))
+    (and-in (ltb (keyAt b i) 32) (ltb a 65536 && named) (lt→ltb (keyAt b i) 32 (omega (arith, g .key)))
+    (and-in (ltb a 65536) named (lt→ltb a 65536 (pair-lt b small (bodyAt b i + 2)))
+    (subst (λ (x : ℕ). T (implies (eqb (kindAt b i) 0) (ltb a x || eqb a start))) (sym e) (g .argument))))
+
+-- the number 0 gives a well-formed history
+pub well-formed : (b : List ℕ) → Bytes b → loadNumber b ≡ 0 → T (wellFormed (historyOf b))
+unfolding wellFormed goodTransaction transactionAt historyOf
+well-formed b small e =
+    let ok = loaded b e in
+    let h = historyOf b in
+    let n = size h in
+    let sz : n ≡ transactionsIn b = history-size b in
+    let cnt : operationCount h ≡ countsBefore b (transactionsIn b) = count-upto b (transactionsIn b) in
+    and-in (leb n 32) (leb (operationCount h) 256 && all (goodTransaction n) h) (le→leb n 32 (omega (arith, ok .few)))
+    (and-in (leb (operationCount h) 256) (all (goodTransaction n) h) (le→leb (operationCount h) 256 (omega (arith, ok .many, ok .sum)))
+    (all-in (goodTransaction n) h
+    (All-map-in (λ x. T (goodTransaction n x)) (transactionAt b) (upTo (transactionsIn b))
+    (upTo-in (λ t. T (goodTransaction n (transactionAt b t))) (transactionsIn b)
+    (λ t l.
+    let os = map (operationOf b t) (upTo (countAt b t)) in
+    and-in (ltb (cabinetAt b t) 16) (all (goodOperation n) os && keysOnce [] os) (lt→ltb (cabinetAt b t) 16 (omega (arith, ok .cabinets t l)))
+    (and-in (all (goodOperation n) os) (keysOnce [] os)
+    (all-in (goodOperation n) os
+    (All-map-in (λ x. T (goodOperation n x)) (operationOf b t) (upTo (countAt b t))
+    (upTo-in (λ m. T (goodOperation n (operationOf b t m))) (countAt b t)
+    (λ m k. good-operation b small n (startAt b t) m sz (body-good b ok t m l k)))))
+    (subst (λ l. T (keysOnce [] (map (operationOf b t) l))) (sym (upTo-from (countAt b t)))
+    (once-from (operationOf b t) [] 0 (countAt b t) tt (λ i j x y z. precede b ok t l i j y (omega arith))))))))))
+
+-- what the theorems on histories need of a loaded log: at most 32 transactions, and keys below 32
+pub loadable-log : (b : List ℕ) → loadNumber b ≡ 0 → Loadable (historyOf b)
+loadable-log b e =
+    let ok = loaded b e in
+    record {
+      few = omega (arith, ok .few, history-size b);
+      keys = λ t.
+          ⊎-elim
+          (λ l.
+          let lt = ltb→lt t (transactionsIn b) l in
+          subst (All (λ (r : Operation). r .key < 32)) (sym (operations-at b t lt))
+          (All-map-in (λ (r : Operation). r .key < 32) (operationOf b t) (upTo (countAt b t))
+          (upTo-in (λ m. operationOf b t m .key < 32) (countAt b t) (λ m k. omega (arith, body-good b ok t m lt k .key)))))
+          (λ l.
+          subst (All (λ (r : Operation). r .key < 32)) (sym (operations-past b t (nltb→le t (transactionsIn b) l))) tt)
+          (decide (ltb t (transactionsIn b)));
+    }
