@@ -1,20 +1,20 @@
 -- Row words that are kept transitively closed: what a side adds to them; and the measure of a search, how many constraints are open.
 -- Assumes nothing.
-use Prim.Native.Nat.{ℕ, zero, suc, _+_, _≤_, _<_}
+use Prim.Native.Nat.{ℕ, zero, suc, _≤_, _<_}
 use native.Mathlib.Omega.{arith}
 use native.Mathlib.Nat.{not-suc-le-zero}
-use mathlib.Core.Path.{_≡_, refl, sym, ap, subst, _∙_}
-use mathlib.Core.Logic.{_⊎_, inl, inr, ⊎-elim, _↔_, _≢_}
+use mathlib.Core.Path.{_≡_, sym, subst}
+use mathlib.Core.Logic.{_⊎_, inl, inr, ⊎-elim}
 use mathlib.Core.Bool.{Bool, true, false, not, cond, _&&_, _||_}
-use mathlib.Core.List.{List, [], _∷_, _++_, map}
+use mathlib.Core.List.{List, [], _∷_}
 use lib.Dec.{T, eqb, eqb→eq, eqb-refl}
 use lib.ListN.{length, getD}
-use Rattle.model.specs.Lists.{All, any, keep, upTo, bit, wordOf}
-use Rattle.model.specs.Polygraph.{has, withSide, reach, closedOff, Way}
+use Rattle.model.specs.Lists.{any, keep, upTo, bit}
+use Rattle.model.specs.Polygraph.{has, withSide, reach, Way}
 use Rattle.model.specs.RowWords.{Tidy}
-use Rattle.model.proofs.Basics.{decide, clash, eq-T, iff-eq, and-l, and-r, and-in, or-out, or-l, or-r, eq-eqb, any-upTo-out, any-upTo-in}
+use Rattle.model.proofs.Basics.{eq-T, iff-eq, and-l, and-r, and-in, or-out, or-l, or-r, eq-eqb, any-upTo-out, any-upTo-in}
 use Rattle.model.proofs.Words.{bit-rows, rows-small}
-use Rattle.model.proofs.Reach.{way-join, way-small, way-reach, reach-way}
+use Rattle.model.proofs.Reach.{way-join, way-reach, reach-way}
 
 -- the edges of g with a side
 module _ (g : List ℕ) (from to : ℕ) where

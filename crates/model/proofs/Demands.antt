@@ -4,13 +4,13 @@
 use Prim.Native.Nat.{ℕ, _≤_, _<_}
 use mathlib.Core.Path.{_≡_}
 use mathlib.Core.Logic.{_⊎_, _↔_, _≢_}
-use mathlib.Core.Option.{Option, none, some}
+use mathlib.Core.Option.{none, some}
 use mathlib.Core.List.{List}
 use lib.Dec.{T}
 use lib.ListN.{length}
 use Rattle.model.specs.History.{History, size, wellFormed, writes, isOrder, legal}
 use Rattle.model.specs.Log.{loadNumber, historyOf}
-use Rattle.model.specs.Polygraph.{goodRead, successor, Linked, isHead, tail, has, reach, Polygraph, pass, rows, unpruned, polygraph, Way, AcyclicSelection, Respects}
+use Rattle.model.specs.Polygraph.{goodRead, successor, Linked, isHead, tail, has, reach, pass, rows, unpruned, polygraph, Way, AcyclicSelection, Respects}
 use Rattle.model.specs.Search.{firstLegal, LexLess}
 use Rattle.model.proofs.Loaded.{Bytes, well-formed, loadable-log}
 use Rattle.model.proofs.Pruning.{polygraph-iff, legal-iff, polygraph-done}

@@ -3,18 +3,18 @@
 use Prim.Native.Nat.{ℕ, zero, suc, _+_, _≤_, _<_}
 use native.Mathlib.Omega.{arith}
 use native.Mathlib.Nat.{not-suc-le-zero}
-use mathlib.Core.Path.{_≡_, refl, sym, ap, subst, _∙_}
-use mathlib.Core.Logic.{_⊎_, inl, inr, ⊎-elim, _↔_, _≢_}
-use mathlib.Core.Bool.{Bool, true, false, not, cond, _&&_, _||_}
+use mathlib.Core.Path.{_≡_, refl, sym, ap, subst}
+use mathlib.Core.Logic.{_⊎_, inl, inr, ⊎-elim, _≢_}
+use mathlib.Core.Bool.{Bool, true, false, not, cond, _&&_}
 use mathlib.Core.List.{List, [], _∷_, _++_, map}
 use mathlib.Core.Option.{Option, none, some}
-use lib.Dec.{T, eqb, eqb→eq}
+use lib.Dec.{T, eqb}
 use lib.ListN.{length}
 use Rattle.model.specs.Lists.{All, keep, each, upTo, count}
 use Rattle.model.specs.History.{History, size, isOrder, keepsCabinets, everyReadExplained, legal}
 use Rattle.model.specs.Search.{arrangements, firstOf, firstLegal, LexLess}
-use Rattle.model.proofs.Basics.{decide, clash, and-l, eqb-ne, ne-eqb, same?, All-imp, All-two, All-every, All-app, All-keep-in, All-keep-out, All-each-in, All-each-out, All-map-in, All-map-out, upTo-in}
-use Rattle.model.proofs.Places.{Once, once-tail, count-here, count-there, Order, order-out, order-once, order-length}
+use Rattle.model.proofs.Basics.{and-l, ne-eqb, same?, All-imp, All-every, All-app, All-keep-in, All-keep-out, All-each-in, All-each-out, All-map-in, All-map-out, upTo-in}
+use Rattle.model.proofs.Places.{Once, once-tail, count-here, count-there, order-out, order-once, order-length}
 use Rattle.model.proofs.Topology.{count-keep, count-upTo}
 
 -- ---- every order is among the arrangements
@@ -160,3 +160,34 @@ first-some h o e = subst (Found h) e (first-legal h)
 
 pub first-none : (h : History) → firstLegal h ≡ none → Found h none
 first-none h e = subst (Found h) e (first-legal h)
+
+-- ---- there is one first legal order
+
+lex-asym : (a b : List ℕ) → LexLess a b → LexLess b a → ⊥
+lex-asym [] [] p q = p
+lex-asym [] (y ∷ b) p q = q
+lex-asym (x ∷ a) [] p q = p
+lex-asym (x ∷ a) (y ∷ b) p q = go p q (λ i j. lex-asym a b i j)
+  where
+    go : (x < y) ⊎ ((x ≡ y) × LexLess a b) → (y < x) ⊎ ((y ≡ x) × LexLess b a) → (LexLess a b → LexLess b a → ⊥) → ⊥
+    go (inl i) (inl j) ih = omega arith
+    go (inl i) (inr j) ih = omega (arith, j .0)
+    go (inr i) (inl j) ih = omega (arith, i .0)
+    go (inr i) (inr j) ih = ih (i .1) (j .1)
+
+pub found-unique : (h : History) (x y : Option (List ℕ)) → Found h x → Found h y → x ≡ y
+found-unique h none none a b = refl
+found-unique h none (some p) a b = absurd (a p (b .0))
+found-unique h (some o) none a b = absurd (b o (a .0))
+found-unique h (some o) (some p) a b =
+    ⊎-elim (λ e. ap {B = Option (List ℕ)} some (sym e))
+    (λ l. ⊎-elim (λ e. ap {B = Option (List ℕ)} some e) (λ m. absurd (lex-asym o p l m)) (b .1 o (a .0)))
+    (a .1 p (b .0))
+
+-- where no order is legal, there is none
+pub first-missing : (h : History) → ((o : List ℕ) → T (legal h o) → ⊥) → firstLegal h ≡ none
+first-missing h f = found-unique h (firstLegal h) none (first-legal h) f
+
+-- a legal order has T numbers
+pub legal-length : (h : History) (o : List ℕ) → T (legal h o) → length o ≡ size h
+legal-length h o t = order-length (order-out (size h) o (legal-order h o t))

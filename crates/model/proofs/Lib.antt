@@ -12,12 +12,9 @@ pub mod Pruning
 pub mod Topology
 pub mod Selection
 pub mod First
-pub mod Depth
-pub mod Replay
 pub mod Tails
 pub mod Rings
-pub mod Solve
-pub mod Decision
+pub mod Sides
 pub mod Closed
 pub mod Loaded
 pub mod Demands

@@ -3,15 +3,15 @@ use Prim.Native.Nat.{ℕ, zero, suc, _+_, _*_, _≤_, _<_}
 use native.Mathlib.Omega.{arith}
 use native.Mathlib.Nat.{not-suc-le-zero}
 use mathlib.Core.Path.{_≡_, refl, sym, ap, subst, _∙_}
-use mathlib.Core.Logic.{_⊎_, inl, inr, ⊎-elim, _≢_}
+use mathlib.Core.Logic.{_⊎_, ⊎-elim, _≢_}
 use mathlib.Core.Bool.{Bool, true, false, not, cond, _&&_, _||_}
 use mathlib.Core.List.{List, [], _∷_, _++_, map}
 use lib.Dec.{T, eqb, ltb, leb, eqb→eq, eqb·suc-zero, ltb→lt, nltb→le, lt→ltb, le→leb}
-use lib.ListN.{length, getD, length-append, List·getD-eq-default}
-use Rattle.model.specs.Lists.{implies, all, any, fold, upTo, All}
-use Rattle.model.specs.History.{History, Transaction, Operation, start, size, noTransaction, cabinetOf, operationsOf, isRead, isWrite, keysOnce, goodOperation, goodTransaction, operationCount, wellFormed}
+use lib.ListN.{length, getD, List·getD-eq-default}
+use Rattle.model.specs.Lists.{implies, all, upTo, All}
+use Rattle.model.specs.History.{Transaction, Operation, start, size, noTransaction, cabinetOf, operationsOf, isRead, isWrite, keysOnce, goodOperation, goodTransaction, operationCount, wellFormed}
 use Rattle.model.specs.Log.{byteAt, pairAt, transactionsIn, operationsIn, cabinetAt, countAt, startAt, countsBefore, bodyAt, kindAt, keyAt, argumentAt, orElse, firstNumber, entryNumber, seen, bodyNumber, bodiesNumber, loadNumber, operationAt, transactionAt, historyOf}
-use Rattle.model.proofs.Basics.{decide, clash, not-intro, and-l, and-r, and-in, or-out, or-l, or-r, implies-in, eq-T, eqb-ne, eq-eqb, ne-eqb, same?, true-eq, false-eq, all-in, any-upTo-in, upTo-in, All-imp, All-map-in, All-every}
+use Rattle.model.proofs.Basics.{decide, clash, not-intro, and-in, implies-in, eq-eqb, same?, all-in, any-upTo-in, upTo-in, All-imp, All-map-in}
 use Rattle.model.proofs.Words.{length-upTo, getD-upTo}
 use Rattle.model.proofs.Loops.{map-snoc, fold-snoc}
 use Rattle.model.proofs.Known.{Loadable}

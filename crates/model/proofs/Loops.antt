@@ -3,18 +3,17 @@ use Prim.Native.Nat.{ℕ, zero, suc, _+_, _^_, _≤_, _<_}
 use native.Mathlib.Omega.{arith}
 use native.Mathlib.Nat.{not-suc-le-zero}
 use mathlib.Core.Path.{_≡_, refl, sym, ap, ap₂, subst, _∙_}
-use mathlib.Core.Logic.{_⊎_, inl, inr, ⊎-elim, _≢_}
-use mathlib.Core.Bool.{Bool, true, false, not, cond, _&&_, _||_, and-or-distrib-left, or-comm}
+use mathlib.Core.Logic.{_⊎_, ⊎-elim, _≢_}
+use mathlib.Core.Bool.{Bool, true, false, not, cond, _&&_, _||_, or-comm}
 use mathlib.Core.List.{List, [], _∷_, _++_, map, append-nil, append-assoc}
-use lib.Dec.{T, eqb, eqb→eq}
+use lib.Dec.{T, eqb}
 use lib.Bits.{bitAnd, bitOr, and-le-l}
 use lib.ListN.{length, getD, take}
-use lib.Seq.{take-suc}
-use Rattle.model.specs.Lists.{all, any, keep, each, fold, upTo, place, count, upToElement, bit, wordOf}
-use Rattle.model.specs.History.{History, start, writes, lastWriter, stored, replay, finalTable}
+use Rattle.model.specs.Lists.{any, keep, each, fold, upTo, count, upToElement, bit, wordOf}
+use Rattle.model.specs.History.{History, writes, lastWriter, stored, replay, finalTable}
 use Rattle.model.specs.Polygraph.{Constraint, Polygraph, row, has, withSide, reach, closedOff, pass}
-use Rattle.model.proofs.Basics.{decide, clash, not-intro, true-eq, false-eq, eq-eqb, ne-eqb, eqb-ne, same?, any-upTo-out, any-upTo-in, all-upTo-in, and-l, and-r, and-in}
-use Rattle.model.proofs.Places.{Once, once-tail, count-here, count-there, place-here, place-there}
+use Rattle.model.proofs.Basics.{decide, clash, not-intro, true-eq, false-eq, eq-eqb, ne-eqb, same?, any-upTo-out, any-upTo-in}
+use Rattle.model.proofs.Places.{Once, once-tail, count-here, count-there}
 use Rattle.model.proofs.Masks.{bit-and, bit-or, bit-one, bit-none, word-bits}
 
 -- ---- one element more

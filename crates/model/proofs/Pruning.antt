@@ -1,17 +1,17 @@
 -- Pruning keeps the orders that respect a polygraph. Assumes nothing.
-use Prim.Native.Nat.{ℕ, zero, suc, _+_, _≤_, _<_}
+use Prim.Native.Nat.{ℕ, zero, suc, _≤_, _<_}
 use native.Mathlib.Omega.{arith}
-use mathlib.Core.Path.{_≡_, refl, sym, ap, subst, _∙_}
-use mathlib.Core.Logic.{_⊎_, inl, inr, ⊎-elim, _↔_, _≢_, Iff·trans}
+use mathlib.Core.Path.{_≡_, refl, sym, ap, subst}
+use mathlib.Core.Logic.{_⊎_, inl, inr, ⊎-elim, _↔_, _≢_}
 use mathlib.Core.Bool.{Bool, true, false, not, cond, _&&_, _||_}
 use mathlib.Core.List.{List, [], _∷_, map}
-use lib.Dec.{T, eqb, ltb, eqb→eq, eqb-refl, ltb→lt}
+use lib.Dec.{T, eqb, ltb, eqb→eq, eqb-refl}
 use lib.ListN.{length}
-use Rattle.model.specs.Lists.{All, any, keep, each, upTo, place, bit, wordOf}
+use Rattle.model.specs.Lists.{All, any, keep, each, upTo, place, bit}
 use Rattle.model.specs.History.{Operation, History, size, operationsOf, isRead, writes, isOrder, legal}
-use Rattle.model.specs.Polygraph.{goodRead, edge, rows, Constraint, inEnds, only, ends, plainOf, plain, between, joined, isHead, tail, chained, constraints, Polygraph, has, withSide, reach, closedOff, pass, passes, unpruned, polygraph, Way, RespectsKnown, RespectsSide, RespectsOne, Respects}
+use Rattle.model.specs.Polygraph.{goodRead, edge, rows, Constraint, inEnds, only, ends, plainOf, plain, between, joined, isHead, tail, chained, constraints, Polygraph, has, withSide, reach, closedOff, pass, passes, unpruned, polygraph, Way, RespectsKnown, RespectsSide, Respects}
 use Rattle.model.specs.RowWords.{Aimed, Tidy, Within}
-use Rattle.model.proofs.Basics.{decide, clash, eq-T, cond-out, and-l, and-r, and-in, or-out, or-l, or-r, eq-eqb, eqb-ne, All-every, All-each-in, All-map-in, All-keep-in, upTo-in, any-upTo-out}
+use Rattle.model.proofs.Basics.{eq-T, cond-out, and-l, and-r, and-in, or-out, or-l, or-r, eqb-ne, All-every, All-each-in, All-map-in, All-keep-in, any-upTo-out}
 use Rattle.model.proofs.Words.{bit-word, word-small, bit-rows, rows-small}
 use Rattle.model.proofs.Reach.{within-tidy, reach-way}
 use Rattle.model.proofs.Legal.{writes-small, reads-small, good-reads, good-writes}

@@ -9,7 +9,7 @@ use mathlib.Core.List.{List, [], _∷_, _++_}
 use lib.Dec.{T, eqb, ltb, ltb→lt}
 use Rattle.model.specs.Lists.{firstOr, upTo}
 use Rattle.model.specs.History.{History, size, wellFormed, writes}
-use Rattle.model.specs.Polygraph.{goodRead, successor, Linked, isHead, tailWithin, tail}
+use Rattle.model.specs.Polygraph.{goodRead, successor, Linked, isHead, tailWithin}
 use Rattle.model.proofs.Basics.{and-in, ne-eqb, same?, true-eq}
 use Rattle.model.proofs.Legal.{writes-small}
 use Rattle.model.proofs.Central.{key2, head-free}

@@ -1,17 +1,17 @@
 -- A polygraph has an acyclic selection if and only if some order respects it; so a history has a legal order
 -- if and only if its polygraph has an acyclic selection, in each of the six settings. Assumes nothing.
-use Prim.Native.Nat.{ℕ, zero, suc, _+_, _≤_, _<_}
+use Prim.Native.Nat.{ℕ, suc, _≤_, _<_}
 use native.Mathlib.Omega.{arith}
-use mathlib.Core.Path.{_≡_, refl, sym, ap, subst, _∙_}
-use mathlib.Core.Logic.{_⊎_, inl, inr, ⊎-elim, _↔_, _≢_}
-use mathlib.Core.Bool.{Bool, true, false, not, cond, _&&_, _||_}
+use mathlib.Core.Path.{_≡_, refl, ap}
+use mathlib.Core.Logic.{_⊎_, inl, inr, ⊎-elim, _↔_}
+use mathlib.Core.Bool.{Bool, true, false}
 use mathlib.Core.List.{List, [], _∷_}
 use lib.Dec.{T}
 use lib.ListN.{length}
-use Rattle.model.specs.Lists.{All, place}
+use Rattle.model.specs.Lists.{All}
 use Rattle.model.specs.History.{History, size, isOrder, legal}
-use Rattle.model.specs.Polygraph.{Constraint, Polygraph, rows, has, reach, withSide, unpruned, polygraph, select, Way, Acyclic, AcyclicSelection, RespectsKnown, RespectsOne, Respects}
-use Rattle.model.specs.RowWords.{Aimed, Tidy, Within}
+use Rattle.model.specs.Polygraph.{Constraint, Polygraph, rows, has, reach, withSide, unpruned, polygraph, select, Way, AcyclicSelection, RespectsKnown, RespectsOne, Respects}
+use Rattle.model.specs.RowWords.{Aimed, Within}
 use Rattle.model.proofs.Reach.{within-tidy, way-reach, reach-way}
 use Rattle.model.proofs.Known.{Loadable}
 use Rattle.model.proofs.Pruning.{Sound, way-forward, side-in, side-known, side-side, sound-A, sound-B, unpruned-sound, polygraph-sound, polygraph-iff, legal-iff}

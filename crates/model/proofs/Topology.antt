@@ -3,17 +3,17 @@ use Prim.Native.Nat.{ℕ, zero, suc, _+_, _≤_, _<_}
 use native.Mathlib.Omega.{arith}
 use native.Mathlib.Nat.{not-suc-le-zero}
 use mathlib.Core.Path.{_≡_, refl, sym, ap, subst, _∙_}
-use mathlib.Core.Logic.{_⊎_, inl, inr, ⊎-elim, _↔_, _≢_}
-use mathlib.Core.Bool.{Bool, true, false, not, cond, _&&_, _||_}
-use mathlib.Core.List.{List, [], _∷_, _++_, append-nil}
-use lib.Dec.{T, eqb, ltb, eqb→eq, eqb-refl, ltb→lt, lt→ltb, nltb→le}
+use mathlib.Core.Logic.{_⊎_, ⊎-elim, _≢_}
+use mathlib.Core.Bool.{Bool, true, false, not, cond}
+use mathlib.Core.List.{List, [], _∷_, _++_}
+use lib.Dec.{T, eqb, ltb, lt→ltb}
 use lib.ListN.{length}
 use Rattle.model.specs.Lists.{All, all, keep, each, upTo, count, place}
 use Rattle.model.specs.History.{isOrder}
-use Rattle.model.specs.Polygraph.{has, reach, Way, Acyclic, RespectsKnown}
+use Rattle.model.specs.Polygraph.{has, reach, Acyclic, RespectsKnown}
 use Rattle.model.specs.RowWords.{Within}
-use Rattle.model.proofs.Basics.{decide, clash, eq-T, true-eq, false-eq, eqb-ne, ne-eqb, eq-eqb, same?, and-in, All-imp, All-every, All-each-in, All-keep-in, upTo-in, all-in, all-upTo-in}
-use Rattle.model.proofs.Places.{place-here, place-there, count-here, count-there, count-place, place-le, sum, sum-digits}
+use Rattle.model.proofs.Basics.{decide, clash, true-eq, false-eq, ne-eqb, eq-eqb, same?, and-in, All-imp, All-every, All-each-in, All-keep-in, upTo-in, all-in, all-upTo-in}
+use Rattle.model.proofs.Places.{place-here, place-there, count-here, count-there, count-place, sum, sum-digits}
 use Rattle.model.proofs.Words.{digit}
 use Rattle.model.proofs.Loops.{each-snoc}
 use Rattle.model.proofs.Reach.{reach-old, reach-trans, reach-way}

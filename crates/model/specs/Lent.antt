@@ -1,6 +1,6 @@
 -- What the calls leave in the lists that they are lent, and the order as 32 numbers: document 01, 'The calls'. Assumes nothing.
 use Prim.Native.Nat.{ℕ, _-_}
-use mathlib.Core.List.{List, [], _∷_, _++_}
+use mathlib.Core.List.{List, _++_}
 use mathlib.Core.Option.{Option, none, some}
 use lib.ListN.{length, take, drop, replicate}
 use Rattle.model.specs.History.{History, finalTable}

@@ -3,8 +3,9 @@ use Prim.Native.Nat.{ℕ, _<_}
 use mathlib.Core.Bool.{Bool, _||_}
 use mathlib.Core.List.{List}
 use lib.Dec.{T}
-use Rattle.model.specs.Lists.{implies, all, any, upTo, bit}
-use Rattle.model.specs.Polygraph.{Constraint, has, reach}
+use Rattle.model.specs.Lists.{implies, All, all, any, upTo, bit}
+use Rattle.model.specs.History.{isOrder}
+use Rattle.model.specs.Polygraph.{Constraint, has, reach, RespectsKnown, RespectsOne}
 
 -- every edge lies between numbers below n
 abbrev pub Within : List ℕ → ℕ → Type 0
@@ -32,3 +33,7 @@ sideIn g from to = all (λ s. implies (bit from s) (has g s to)) (upTo 32)
 -- one of the two sides is there whole
 unfoldable pub held : List ℕ → Constraint → Bool
 held g c = sideIn g (c .fromA) (c .toA) || sideIn g (c .fromB) (c .toB)
+
+-- some order of the numbers below n respects the row words and one side of each constraint
+abbrev pub Solvable : ℕ → List Constraint → List ℕ → Type 0
+Solvable n cs g = (o : List ℕ) × T (isOrder n o) × RespectsKnown o g × All (RespectsOne o) cs

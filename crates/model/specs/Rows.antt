@@ -1,7 +1,6 @@
 -- Document 01's histories A to J and the program's example, as logs, with a log for each number of Load: rows of one list that one theorem
 -- covers, by computation. Assumes nothing.
-use Prim.Native.Nat.{ℕ, zero, suc}
-use mathlib.Core.Path.{_≡_, refl}
+use Prim.Native.Nat.{ℕ}
 use mathlib.Core.Bool.{Bool, true, false, _&&_}
 use mathlib.Core.List.{List, [], _∷_, map}
 use mathlib.Core.Option.{Option, none, some}

@@ -1,0 +1,62 @@
+-- Load's answer by its tests. Assumes nothing.
+use Prim.Native.Nat.{ℕ}
+use native.Mathlib.Omega.{arith}
+use mathlib.Core.Path.{_≡_, refl, sym, ap, ap₂, _∙_}
+use mathlib.Core.Logic.{_≢_}
+use mathlib.Core.Bool.{Bool, true, false, cond}
+use mathlib.Core.List.{List}
+use lib.Dec.{eqb}
+use borrow.Author.Tests.{eq-eqb, ne-eqb}
+use Rattle.model.specs.Log.{loadNumber}
+use Rattle.checker.specs.declared.Case.{Case}
+use Rattle.checker.specs.declared.Loading.{Loading}
+use Rattle.checker.specs.declared.Reply.{Reply}
+use Rattle.checker.specs.declared.Reply.the-variants.{Taken, Refused}
+use Rattle.checker.specs.Cases.{stageOf, isFresh, loadedCase}
+use Rattle.checker.specs.Answers.{replyOf}
+use Rattle.checker.specs.Calls.{loadRefusal, caseAfterLoad, loading}
+
+-- ---- replies
+
+pub reply-none : (n : ℕ) → n ≡ 0 → replyOf n ≡ Taken
+unfolding replyOf
+reply-none n e = ap (λ b. cond b Taken (Refused n)) (eq-eqb n 0 e)
+
+pub reply-some : (n : ℕ) → n ≢ 0 → replyOf n ≡ Refused n
+unfolding replyOf
+reply-some n f = ap (λ b. cond b Taken (Refused n)) (ne-eqb n 0 f)
+
+-- ---- the number
+
+module _ (c : Case) (b : List ℕ) where
+  pub refusal-fresh : isFresh (stageOf c) ≡ true → loadRefusal c b ≡ loadNumber b
+  unfolding loadRefusal
+  refusal-fresh e = ap (λ x. cond x (loadNumber b) 21) e
+
+  pub refusal-other : isFresh (stageOf c) ≡ false → loadRefusal c b ≡ 21
+  unfolding loadRefusal
+  refusal-other e = ap (λ x. cond x (loadNumber b) 21) e
+
+  pub refusal-none : loadRefusal c b ≡ 0 → loadNumber b ≡ 0
+  unfolding loadRefusal
+  refusal-none e = go (isFresh (stageOf c)) e
+    where
+      go : (x : Bool) → _≡_ {A = ℕ} (cond x (loadNumber b) 21) 0 → loadNumber b ≡ 0
+      go true p = p
+      go false p = absurd (omega (arith, p))
+
+  -- ---- the answer
+
+  abbrev answer : Case → Reply → Loading
+  answer x r = record { case = x; reply = r }
+
+  pub load-refused : (n : ℕ) → n ≡ loadRefusal c b → n ≢ 0 → record { case = c; reply = Refused n } ≡ loading c b
+  unfolding loading caseAfterLoad
+  load-refused n e f =
+      let g : loadRefusal c b ≢ 0 = λ z. f (e ∙ z) in
+      ap₂ answer (sym (ap (λ x. cond x (loadedCase b) c) (ne-eqb (loadRefusal c b) 0 g))) (sym (reply-some n f) ∙ ap replyOf e)
+
+  pub load-taken : (d : Case) → loadRefusal c b ≡ 0 → d ≡ loadedCase b → record { case = d; reply = Taken } ≡ loading c b
+  unfolding loading caseAfterLoad
+  load-taken d e p =
+      ap₂ answer (p ∙ sym (ap (λ x. cond x (loadedCase b) c) (eq-eqb (loadRefusal c b) 0 e))) (sym (reply-none (loadRefusal c b) e))

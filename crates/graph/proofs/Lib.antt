@@ -1,0 +1,4 @@
+pub mod Sweeps
+pub mod Rows
+pub mod Constraints
+pub mod WordLaws

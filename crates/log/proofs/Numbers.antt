@@ -1,0 +1,276 @@
+-- The tests that the code makes are the model's; one round more of each loop. Assumes nothing.
+use Prim.Native.Nat.{ℕ, zero, suc, _+_, _*_, _^_, _≤_, _<_}
+use native.Mathlib.Omega.{arith}
+use native.Mathlib.Numerals.{add-one}
+use mathlib.Core.Path.{_≡_, refl, sym, ap, ap₂, subst, _∙_}
+use mathlib.Core.Logic.{_≢_}
+use mathlib.Core.Bool.{Bool, true, false, not, cond, _&&_, _||_, or-false}
+use mathlib.Core.List.{List}
+use lib.Dec.{T, eqb, ltb, eqb→eq, nltb→le}
+use lib.Bits.{bitOr, or-lt}
+use lib.ListN.{length}
+use lib.Pow.{pow-lt}
+use Rattle.model.specs.Lists.{bit, wordOf, any, upTo}
+use Rattle.model.specs.History.{start}
+use Rattle.model.specs.Log.{byteAt, pairAt, transactionsIn, operationsIn, countAt, startAt, countsBefore, bodyAt, kindAt, keyAt, argumentAt, orElse, firstNumber, entryNumber, seen, bodyNumber, bodiesNumber, loadNumber}
+use Rattle.model.proofs.Words.{bit-word, word-lt}
+use Rattle.model.proofs.Masks.{bit-or, bit-one, same-bits}
+use Rattle.model.proofs.Loops.{any-snoc}
+use Rattle.model.proofs.Basics.{true-eq, false-eq, decide, eqb-comm}
+use Rattle.model.proofs.Loaded.{Bytes, first-suc, or-else-none, or-else-some, first-on, first-stop, first-out, counts-suc, counts-mono, good-entry, GoodEntry, good-body, GoodBody}
+use borrow.Author.Tests.{eq-eqb, ne-eqb, lt-ltb, le-ltb}
+use Rattle.log.specs.Tests.{entryBy, nextBy, summedTo, named, readBy, writeBy, bodyBy, markBy}
+use Rattle.log.specs.Reading.{entryAt}
+use Rattle.log.specs.declared.entries.Summed.{Summed}
+use Rattle.log.specs.declared.view.Entry.{Entry}
+
+-- ---- entries
+
+-- one entry more
+pub entries-next : (b : List ℕ) (t : ℕ) → nextBy b t (summedTo b t) ≡ summedTo b (t + 1)
+unfolding nextBy entryBy entryNumber
+entries-next b t =
+    ap₂ summed (sym (first-suc (entryNumber b) t) ∙ ap (firstNumber (entryNumber b)) (sym (add-one t))) (sym (counts-suc b t) ∙ ap (countsBefore b) (sym (add-one t)))
+  where
+    summed : ℕ → ℕ → Summed
+    summed n s = record { number = n; sum = s }
+
+-- the same as the code does it
+pub next-is : (b : List ℕ) (t : ℕ) (c : Summed) (e : Entry) (x y : ℕ) → e ≡ entryAt b t → x ≡ entryBy e (c .sum) → y ≡ orElse (c .number) x
+    → record { number = y; sum = c .sum + e .count } ≡ nextBy b t c
+unfolding nextBy
+next-is b t c e x y p q r =
+    ap₂ summed (r ∙ ap (orElse (c .number)) (q ∙ ap (λ (f : Entry). entryBy f (c .sum)) p)) (ap (λ (f : Entry). c .sum + f .count) p)
+  where
+    summed : ℕ → ℕ → Summed
+    summed n s = record { number = n; sum = s }
+
+pub summed-out : (b : List ℕ) (n : ℕ) (c : Summed) → c ≡ summedTo b n → (c .number ≡ firstNumber (entryNumber b) n) × (c .sum ≡ countsBefore b n)
+summed-out b n c e = (ap (λ (s : Summed). s .number) e, ap (λ (s : Summed). s .sum) e)
+
+-- none yet
+pub entries-none : (b : List ℕ) → record { number = 0; sum = 0 } ≡ summedTo b 0
+unfolding firstNumber countsBefore
+entries-none b = refl
+
+-- the counts of n entries sum to at most 255 for each
+pub sum-low : (b : List ℕ) → Bytes b → (n : ℕ) → countsBefore b n ≤ 255 * n
+unfolding countsBefore
+sum-low b small zero = omega arith
+sum-low b small (suc n) = omega (arith, sum-low b small n, small (5 + 4 * n))
+
+-- a transaction's bodies are among the N, where the entries are good and the counts sum to N
+pub within : (b : List ℕ) → firstNumber (entryNumber b) (transactionsIn b) ≡ 0 → countsBefore b (transactionsIn b) ≡ operationsIn b
+    → (t : ℕ) → t < transactionsIn b → startAt b t + countAt b t ≤ operationsIn b
+within b e s t l =
+    omega (arith, good-entry b t (first-out (entryNumber b) (transactionsIn b) e t l) .start-is, counts-suc b t, counts-mono b (suc t) (transactionsIn b) l, s)
+
+-- ---- the keys seen so far, as a mask
+
+module _ (b : List ℕ) (first : ℕ) where
+  pub seen-suc : (m x k : ℕ) → seen b first (suc m) x k ≡ (seen b first m x k || (eqb (kindAt b (first + m)) x && eqb (keyAt b (first + m)) k))
+  unfolding seen
+  seen-suc m x k = any-snoc (λ j. eqb (kindAt b (first + j)) x && eqb (keyAt b (first + j)) k) (upTo m) m
+
+  -- the mask of the keys of this kind in the first m bodies
+  unfoldable pub maskAt : ℕ → ℕ → ℕ
+  maskAt m x = wordOf 32 (seen b first m x)
+
+  pub mask-next : (m x : ℕ) → keyAt b (first + m) < 32 → markBy (maskAt m x) (kindAt b (first + m)) x (keyAt b (first + m)) ≡ maskAt (suc m) x
+  unfolding markBy maskAt
+  mask-next m x l =
+      go (eqb (kindAt b (first + m)) x) (λ k. seen-suc m x k)
+    where
+      key : ℕ
+      key = keyAt b (first + m)
+
+      swap : (i : ℕ) → eqb i key ≡ eqb key i
+      swap i = eqb-comm i key
+
+      go : (a : Bool) → ((k : ℕ) → seen b first (suc m) x k ≡ (seen b first m x k || (a && eqb key k)))
+          → cond a (bitOr (maskAt m x) (2 ^ key)) (maskAt m x) ≡ maskAt (suc m) x
+      go true f =
+          same-bits 32 (bitOr (maskAt m x) (2 ^ key)) (seen b first (suc m) x) (or-lt 32 (maskAt m x) (2 ^ key) (word-lt 32 (seen b first m x)) (pow-lt l))
+          (λ i k. bit-or (maskAt m x) (2 ^ key) i ∙ ap₂ (λ p q. p || q) (bit-word 32 (seen b first m x) i k) (bit-one key i ∙ swap i) ∙ sym (f i))
+      go false f =
+          same-bits 32 (maskAt m x) (seen b first (suc m) x) (word-lt 32 (seen b first m x))
+          (λ i k. bit-word 32 (seen b first m x) i k ∙ sym (or-false (seen b first m x i)) ∙ sym (f i))
+
+  -- ---- a body
+
+  pub mask-bit : (m x : ℕ) → (k : ℕ) → k < 32 → bit (maskAt m x) k ≡ seen b first m x k
+  unfolding maskAt
+  mask-bit m x k l = bit-word 32 (seen b first m x) k l
+
+  pub masks-start : (x : ℕ) → 0 ≡ maskAt 0 x
+  unfolding seen maskAt
+  masks-start x = refl
+
+  pub body-is : (m : ℕ) → bodyBy b (bodyAt b (first + m)) (transactionsIn b) (maskAt m 0) (maskAt m 1) ≡ bodyNumber b first m
+  unfolding bodyBy bodyNumber readBy writeBy named
+  body-is m =
+      same (ltb 1 kind) 7 (cond (ltb 31 key) 8 by) (cond (ltb 31 key) 8 is)
+      (λ s. same (ltb 31 key) 8 by is (λ t. go (eqb kind 0) (λ u. eqb→eq kind 0 u) (λ u. one kind (nltb→le 1 kind s) u) (omega (arith, nltb→le 31 key t))))
+    where
+      kind : ℕ
+      kind = kindAt b (first + m)
+
+      key : ℕ
+      key = keyAt b (first + m)
+
+      lo : Bool
+      lo = ltb (argumentAt b (first + m)) (transactionsIn b)
+
+      st : Bool
+      st = eqb (argumentAt b (first + m)) start
+
+      by : ℕ
+      by = cond (eqb kind 0) (cond (lo || st) (cond (bit (maskAt m 0) key) 10 (cond (bit (maskAt m 1) key) 11 0)) 9) (cond (bit (maskAt m 1) key) 10 0)
+
+      is : ℕ
+      is = cond (eqb kind 0 && (not lo && not st)) 9 (cond (seen b first m kind key) 10 (cond (eqb kind 0 && seen b first m 1 key) 11 0))
+
+      turn : (x y : Bool) (n : ℕ) → _≡_ {A = ℕ} (cond (x || y) n 9) (cond (not x && not y) 9 n)
+      turn true y n = refl
+      turn false true n = refl
+      turn false false n = refl
+
+      same : (a : Bool) (n x y : ℕ) → (T (not a) → x ≡ y) → cond a n x ≡ cond a n y
+      same true n x y f = refl
+      same false n x y f = f tt
+
+      one : (x : ℕ) → x ≤ 1 → T (not (eqb x 0)) → x ≡ 1
+      one zero l t = absurd t
+      one (suc zero) l t = refl
+      one (suc (suc x)) l t = absurd (omega arith)
+
+      go : (r : Bool) → (T r → kind ≡ 0) → (T (not r) → kind ≡ 1) → key < 32
+          → _≡_ {A = ℕ} (cond r (cond (lo || st) (cond (bit (maskAt m 0) key) 10 (cond (bit (maskAt m 1) key) 11 0)) 9) (cond (bit (maskAt m 1) key) 10 0))
+          (cond (r && (not lo && not st)) 9 (cond (seen b first m kind key) 10 (cond (r && seen b first m 1 key) 11 0)))
+      go true f g l =
+          turn lo st (cond (bit (maskAt m 0) key) 10 (cond (bit (maskAt m 1) key) 11 0))
+          ∙ ap₂ {C = ℕ} (λ (x y : Bool). cond (not lo && not st) 9 (cond x 10 (cond y 11 0)))
+          (mask-bit m 0 key l ∙ ap (λ x. seen b first m x key) (sym (f tt))) (mask-bit m 1 key l)
+      go false f g l =
+          ap {B = ℕ} (λ (x : Bool). cond x 10 0) (mask-bit m 1 key l ∙ ap (λ x. seen b first m x key) (sym (g tt)))
+
+-- ---- the loop over a transaction's bodies
+
+-- after m bodies of the transaction whose first body is given: all are good, and the masks are of the keys that they read and write
+pub record Sofar (b : List ℕ) (first m reads writes : ℕ) : Type 0 where
+  pub none : firstNumber (bodyNumber b first) m ≡ 0
+  pub reads-is : reads ≡ maskAt b first m 0
+  pub writes-is : writes ≡ maskAt b first m 1
+
+pub sofar-start : (b : List ℕ) (first : ℕ) → Sofar b first 0 0 0
+unfolding firstNumber
+sofar-start b first = record { none = refl; reads-is = masks-start b first 0; writes-is = masks-start b first 1 }
+
+module _ (b : List ℕ) (first m n reads writes x : ℕ) (count : n ≡ transactionsIn b) (s : Sofar b first m reads writes)
+    (e : x ≡ bodyBy b (4 + 4 * n + 4 * (first + m)) n reads writes) where
+  pub sofar-number : x ≡ bodyNumber b first m
+  sofar-number =
+      e ∙ ap (λ k. bodyBy b (4 + 4 * k + 4 * (first + m)) k reads writes) count
+      ∙ ap₂ (λ r w. bodyBy b (bodyAt b (first + m)) (transactionsIn b) r w) (s .reads-is) (s .writes-is) ∙ body-is b first m
+
+  pub sofar-stop : (c : ℕ) → m < c → x ≢ 0 → x ≡ firstNumber (bodyNumber b first) c
+  sofar-stop c l f =
+      sofar-number ∙ sym (first-stop (bodyNumber b first) m c l (s .none) (λ z. f (sofar-number ∙ z)))
+
+  pub sofar-key : x ≡ 0 → byteAt b (4 + 4 * n + 4 * (first + m) + 1) < 32
+  sofar-key z =
+      let g : GoodBody b first m = good-body b first m (sym sofar-number ∙ z) in
+      omega (arith, g .key, ap (λ k. byteAt b (4 + 4 * k + 4 * (first + m) + 1)) count)
+
+  pub sofar-next : x ≡ 0 → (r w : ℕ)
+      → r ≡ markBy reads (byteAt b (4 + 4 * n + 4 * (first + m))) 0 (byteAt b (4 + 4 * n + 4 * (first + m) + 1))
+      → w ≡ markBy writes (byteAt b (4 + 4 * n + 4 * (first + m))) 1 (byteAt b (4 + 4 * n + 4 * (first + m) + 1))
+      → Sofar b first (m + 1) r w
+  sofar-next z r w p q =
+      let g : GoodBody b first m = good-body b first m (sym sofar-number ∙ z) in
+      let key : keyAt b (first + m) < 32 = omega (arith, g .key) in
+      subst (λ i. Sofar b first i r w) (sym (add-one m))
+      (record {
+        none = first-on (bodyNumber b first) m (s .none) (sym sofar-number ∙ z);
+        reads-is = p ∙ marked reads 0 ∙ ap (λ y. markBy y (kindAt b (first + m)) 0 (keyAt b (first + m))) (s .reads-is) ∙ mask-next b first m 0 key;
+        writes-is = q ∙ marked writes 1 ∙ ap (λ y. markBy y (kindAt b (first + m)) 1 (keyAt b (first + m))) (s .writes-is) ∙ mask-next b first m 1 key;
+      })
+    where
+      marked : (y i : ℕ) → markBy y (byteAt b (4 + 4 * n + 4 * (first + m))) i (byteAt b (4 + 4 * n + 4 * (first + m) + 1)) ≡ markBy y (kindAt b (first + m)) i (keyAt b (first + m))
+      marked y i = ap (λ k. markBy y (byteAt b (4 + 4 * k + 4 * (first + m))) i (byteAt b (4 + 4 * k + 4 * (first + m) + 1))) count
+
+-- ---- the loop over the transactions
+
+pub bodies-round : (b : List ℕ) (t x s c : ℕ) → s ≡ startAt b t → c ≡ countAt b t → x ≡ firstNumber (bodyNumber b s) c → x ≡ bodiesNumber b t
+unfolding bodiesNumber
+bodies-round b t x s c p q e = e ∙ ap₂ (λ y z. firstNumber (bodyNumber b y) z) p q
+
+pub first-found : (f : ℕ → ℕ) (n m x : ℕ) → n < m → firstNumber f n ≡ 0 → x ≡ f n → x ≢ 0 → x ≡ firstNumber f m
+first-found f n m x l e p g = p ∙ sym (first-stop f n m l e (λ z. g (p ∙ z)))
+
+pub first-next : (f : ℕ → ℕ) (n x : ℕ) → firstNumber f n ≡ 0 → x ≡ f n → x ≡ 0 → firstNumber f (n + 1) ≡ 0
+first-next f n x e p z = ap (firstNumber f) (add-one n) ∙ first-on f n e (sym p ∙ z)
+
+-- ---- the whole number, test by test
+
+module _ (b : List ℕ) where
+  abbrev after6 : ℕ
+  after6 = cond (eqb (countsBefore b (transactionsIn b)) (operationsIn b)) (firstNumber (bodiesNumber b) (transactionsIn b)) 6
+
+  abbrev after3 : ℕ
+  after3 = orElse (firstNumber (entryNumber b) (transactionsIn b)) after6
+
+  abbrev after2 : Bool → ℕ
+  after2 x = cond x after3 3
+
+  abbrev after1 : Bool → ℕ
+  after1 x = cond x 2 (after2 (eqb (length b) (4 + 4 * transactionsIn b + 4 * operationsIn b)))
+
+  load-is : (x : Bool) → ltb (length b) 4 ≡ x → loadNumber b ≡ cond x 1 (after1 (ltb 32 (transactionsIn b) || ltb 256 (operationsIn b)))
+  unfolding loadNumber
+  load-is x e = ap (λ y. cond y 1 (after1 (ltb 32 (transactionsIn b) || ltb 256 (operationsIn b)))) e
+
+  pub load-short : length b < 4 → 1 ≡ loadNumber b
+  load-short l = sym (load-is true (lt-ltb (length b) 4 l))
+
+  module _ (long : 4 ≤ length b) where
+    past1 : loadNumber b ≡ after1 (ltb 32 (transactionsIn b) || ltb 256 (operationsIn b))
+    past1 = load-is false (le-ltb (length b) 4 long)
+
+    pub load-many-t : 32 < transactionsIn b → 2 ≡ loadNumber b
+    load-many-t l = sym (past1 ∙ ap (λ (x : Bool). after1 (x || ltb 256 (operationsIn b))) (lt-ltb 32 (transactionsIn b) l))
+
+    module _ (few : transactionsIn b ≤ 32) where
+      pub load-many-n : 256 < operationsIn b → 2 ≡ loadNumber b
+      load-many-n l =
+          sym (past1 ∙ ap₂ (λ (x y : Bool). after1 (x || y)) (le-ltb 32 (transactionsIn b) few) (lt-ltb 256 (operationsIn b) l))
+
+      module _ (many : operationsIn b ≤ 256) where
+        past2 : loadNumber b ≡ after2 (eqb (length b) (4 + 4 * transactionsIn b + 4 * operationsIn b))
+        past2 = past1 ∙ ap₂ (λ (x y : Bool). after1 (x || y)) (le-ltb 32 (transactionsIn b) few) (le-ltb 256 (operationsIn b) many)
+
+        pub load-length : (length b ≡ 4 + 4 * transactionsIn b + 4 * operationsIn b → ⊥) → 3 ≡ loadNumber b
+        load-length f = sym (past2 ∙ ap after2 (ne-eqb (length b) (4 + 4 * transactionsIn b + 4 * operationsIn b) f))
+
+        module _ (whole : length b ≡ 4 + 4 * transactionsIn b + 4 * operationsIn b) where
+          past3 : loadNumber b ≡ after3
+          past3 = past2 ∙ ap after2 (eq-eqb (length b) (4 + 4 * transactionsIn b + 4 * operationsIn b) whole)
+
+          pub load-entries : (x : ℕ) → x ≡ firstNumber (entryNumber b) (transactionsIn b) → x ≢ 0 → x ≡ loadNumber b
+          load-entries x e f = e ∙ sym (or-else-some (firstNumber (entryNumber b) (transactionsIn b)) after6 (λ z. f (e ∙ z))) ∙ sym past3
+
+          module _ (none : firstNumber (entryNumber b) (transactionsIn b) ≡ 0) where
+            past5 : loadNumber b ≡ after6
+            past5 = past3 ∙ or-else-none (firstNumber (entryNumber b) (transactionsIn b)) after6 none
+
+            pub load-sum : (countsBefore b (transactionsIn b) ≡ operationsIn b → ⊥) → 6 ≡ loadNumber b
+            load-sum f =
+                sym (past5 ∙ ap (λ (x : Bool). cond x (firstNumber (bodiesNumber b) (transactionsIn b)) 6) (ne-eqb (countsBefore b (transactionsIn b)) (operationsIn b) f))
+
+            pub load-bodies : countsBefore b (transactionsIn b) ≡ operationsIn b → firstNumber (bodiesNumber b) (transactionsIn b) ≡ loadNumber b
+            load-bodies e =
+                sym (past5 ∙ ap (λ (x : Bool). cond x (firstNumber (bodiesNumber b) (transactionsIn b)) 6) (eq-eqb (countsBefore b (transactionsIn b)) (operationsIn b) e))
+
+pub bodies-start : (b : List ℕ) → firstNumber (bodiesNumber b) 0 ≡ 0
+unfolding firstNumber
+bodies-start b = refl

@@ -1,0 +1,5 @@
+pub mod Alls
+pub mod Ordering
+pub mod Placing
+pub mod Running
+pub mod Judging

@@ -1,0 +1,72 @@
+-- `replay::tables::store` meets its contract. Assumes nothing.
+use Rattle.replay.proofs.Running.{storedTo, stored-none, stored-next, stored-all, put-is}
+use Rattle.replay.specs.Steps.{putBy}
+use Rattle.log.proofs.Reading.{inside-few, operation-is}
+use Rattle.log.specs.Reading.{asOperation}
+use mathlib.Core.Path.{_≡_, ap, ap₂, _∙_}
+use borrow.Author.Needs.{needs}
+use native.Mathlib.Omega.{arith}
+use Prim.Native.Nat.{_≤_, _-_}
+use Rattle.replay.proofs.tables.store.Statement.{statement}
+use Rattle.replay.proofs.tables.store.Tie as tie
+
+abbrev Inv-loop : tie.InvT-loop
+Inv-loop log marks t count out₀ m₀ out m = (m ≤ count) × (out ≡ storedTo marks log out₀ t m)
+
+abbrev μ-loop : tie.MeasureT-loop
+μ-loop log marks t count out₀ m₀ out m = count - m
+
+count-requires : tie.Need-count-requires Inv-loop μ-loop
+count-requires c κs = c .before .pre
+
+loop-holds : tie.Need-loop-holds Inv-loop μ-loop
+loop-holds c =
+    let a = c .before .before .args in
+    (omega arith, stored-none (a .marks) (a .log .now) (a .table) (a .t))
+
+operation-requires : tie.Need-operation-requires Inv-loop μ-loop
+operation-requires c κs = (c .before .before .before .before .pre, omega (arith, c .before .before .count .ensures .0))
+
+left-by-requires : tie.Need-left-by-requires Inv-loop μ-loop
+left-by-requires c κs =
+    (omega (arith, inside-few (c .before .before .before .before .before .args .log .now) (c .before .before .before .before .before .args .t) (c .before .before .before .before .before .pre)), c .operation .ensures .argument-fits)
+
+put-requires : tie.Need-put-requires Inv-loop μ-loop
+put-requires c κs = c .before .operation .ensures .key-low
+
+add-m : tie.Need-add-m Inv-loop μ-loop
+add-m c = search needs
+
+loop-less : tie.Need-loop-less Inv-loop μ-loop
+loop-less c = search needs
+
+loop-again : tie.Need-loop-again Inv-loop μ-loop
+loop-again c =
+    let a = c .before .before .before .before .before .before .before .args in
+    let l = c .before .before .before .before .loop in (
+      omega arith,
+      put-is (a .marks) (a .log .now) (a .table) (a .t) (l .m) (l .out) _ _ _ (l .inv .1) (operation-is (a .log .now) (a .t) (l .m) _ (c .before .before .operation .ensures)) (c .before .left-by .ensures) (c .put .ensures)
+          ∙ stored-next (a .marks) (a .log .now) (a .table) (a .t) (l .m),
+    )
+
+returns : tie.Need-returns Inv-loop μ-loop
+returns c =
+    let a = c .before .before .before .before .args in
+    let l = c .before .loop in
+    l .inv .1 ∙ stored-all (a .marks) (a .log .now) (a .table) (a .t) (l .m) (c .before .before .before .before .pre .below) (omega (arith, c .before .before .count .ensures .0))
+
+pub store-spec : {M : Type 1} → statement M
+store-spec =
+    tie.close
+    (tie.spec
+    Inv-loop
+    μ-loop
+    count-requires
+    loop-holds
+    operation-requires
+    left-by-requires
+    put-requires
+    add-m
+    loop-less
+    loop-again
+    returns)

@@ -1,0 +1,111 @@
+// The transactions of an order, one after another, over a table with a value for each key: the last writer, or the last value written.
+ghost use mathlib.Core.Path.{_≡_};
+ghost use mathlib.Core.Bool.{cond};
+ghost use Prim.Native.Nat.{_<_};
+ghost use lib.Dec.{T};
+ghost use Rattle.model.specs.History.{isOrder, everyReadExplained, finalTable};
+ghost use Rattle.model.specs.Log.{transactionsIn, loadNumber, historyOf};
+ghost use Rattle.log.specs.Reading.{InLog, asOperation};
+ghost use Rattle.replay.specs.Steps.{agreesBy, readsAgree, putBy, storedBy};
+use log::Body;
+
+// Whether a read that looks outward names the last writer of its key.
+fn agrees(last: [u16; 32], o: Body) -> bool
+    requires { ⌜ o .key < 32 ⌝ }
+    ensures { λ r. ⌜ r ≡ agreesBy last (asOperation o) ⌝ }
+{
+    if o.kind != 0 {
+        return true;
+    }
+    let key = o.key;
+    last[key] as usize == o.argument
+}
+
+// The same of all reads of transaction t.
+fn reads_agree(log: &[u8], last: [u16; 32], t: usize) -> bool
+    requires { ⌜ InLog (now log) t ⌝ }
+    ensures { λ r. ⌜ r ≡ readsAgree (historyOf (now (log .entry))) last t ⌝ }
+{
+    let count = log::count(log, t);
+    let mut m: usize = 0;
+    while m < count {
+        if !agrees(last, log::operation(log, t, m)) {
+            return false;
+        }
+        m += 1;
+    }
+    true
+}
+
+// The table with x at the operation's key, where it is a write.
+fn put(table: [u16; 32], o: Body, x: u16) -> [u16; 32]
+    requires { ⌜ o .key < 32 ⌝ }
+    ensures { λ r. ⌜ r ≡ putBy table (asOperation o) x ⌝ }
+{
+    if o.kind != 1 {
+        return table;
+    }
+    let mut out = table;
+    let key = o.key;
+    out[key] = x;
+    out
+}
+
+// What a write leaves at its key: the number of its transaction, where the table marks writers, else its argument.
+fn left_by(marks: bool, t: usize, argument: usize) -> u16
+    requires { ⌜ (t < 65536) × (argument < 65536) ⌝ }
+    ensures { λ r. ⌜ r ≡ cond marks t argument ⌝ }
+{
+    if marks { t as u16 } else { argument as u16 }
+}
+
+// The writes of transaction t are stored.
+fn store(log: &[u8], marks: bool, table: [u16; 32], t: usize) -> [u16; 32]
+    requires { ⌜ InLog (now log) t ⌝ }
+    ensures { λ r. ⌜ r ≡ storedBy marks (historyOf (now (log .entry))) table t ⌝ }
+{
+    let count = log::count(log, t);
+    let mut out = table;
+    let mut m: usize = 0;
+    while m < count {
+        let o = log::operation(log, t, m);
+        let next = put(out, o, left_by(marks, t, o.argument));
+        out = next;
+        m += 1;
+    }
+    out
+}
+
+// Whether every read is explained in the replay of an order.
+pub fn explains(log: &[u8], order: &[u8]) -> bool
+    requires { ⌜ (loadNumber (now log) ≡ 0) × T (isOrder (transactionsIn (now log)) (now order)) ⌝ }
+    ensures { λ r. ⌜ r ≡ everyReadExplained (historyOf (now (log .entry))) (now (order .entry)) ⌝ }
+{
+    let mut last = [65535u16; 32];
+    let mut i: usize = 0;
+    while i < order.len() {
+        let t = order[i] as usize;
+        if !reads_agree(log, last, t) {
+            return false;
+        }
+        let next = store(log, true, last, t);
+        last = next;
+        i += 1;
+    }
+    true
+}
+
+// The table that an order leaves.
+pub fn table(log: &[u8], order: &[u8]) -> [u16; 32]
+    requires { ⌜ (loadNumber (now log) ≡ 0) × T (isOrder (transactionsIn (now log)) (now order)) ⌝ }
+    ensures { λ r. ⌜ r ≡ finalTable (historyOf (now (log .entry))) (now (order .entry)) ⌝ }
+{
+    let mut out = [0u16; 32];
+    let mut i: usize = 0;
+    while i < order.len() {
+        let next = store(log, false, out, order[i] as usize);
+        out = next;
+        i += 1;
+    }
+    out
+}

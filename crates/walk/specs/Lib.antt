@@ -1,0 +1,9 @@
+pub mod Arrays
+pub mod Both
+pub mod ByValue
+pub mod Kind
+pub mod Lending
+pub mod Locals
+pub mod Prelude
+pub mod Sharing
+pub mod Slices
