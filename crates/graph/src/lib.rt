@@ -8,6 +8,7 @@ ghost use Rattle.model.specs.RowWords.{Tidy, «cyclic»};
 ghost use Rattle.graph.specs.Bodies.{pointed, absorbed, extendedRow};
 
 pub mod mask;
+
 pub use mask::has;
 pub use mask::with;
 
