@@ -1,14 +1,13 @@
 -- What a case holds, as the code finds it: the log, the order, the stage; and the bytes of a log in the room of a case. Assumes nothing.
 use Prim.Native.Nat.{ℕ, zero, suc, _+_, _*_, _-_, _≤_, _<_}
 use native.Mathlib.Omega.{arith}
-use native.Mathlib.Numerals.{add-one}
 use mathlib.Core.Path.{_≡_, refl, sym, ap, ap₂, subst, _∙_}
 use mathlib.Core.Logic.{_≢_}
 use mathlib.Core.Bool.{Bool, true, false, not, _&&_}
-use mathlib.Core.List.{List, [], _∷_, _++_, append-assoc}
+use mathlib.Core.List.{List, _++_}
 use lib.Dec.{T, eqb, leb, eqb→eq, leb→le, le→leb}
-use lib.ListN.{length, take, replicate, getD, set}
-use lib.Seq.{take-suc, take-length, length-take-le, set-at}
+use lib.ListN.{length, take, drop, replicate}
+use lib.Seq.{take-length}
 use Rattle.model.specs.Log.{transactionsIn, loadNumber}
 use Rattle.model.specs.History.{isOrder}
 use Rattle.model.proofs.Basics.{and-l, and-r, true-eq, false-eq, not-intro}
@@ -16,7 +15,7 @@ use Rattle.model.proofs.Loaded.{Loaded, loaded}
 use Rattle.checker.specs.declared.Stage.{Stage}
 use Rattle.checker.specs.declared.Stage.the-variants.{Fresh, Loaded as SaysLoaded, Ordered, NoOrder}
 use Rattle.checker.specs.declared.Case.{Case}
-use Rattle.checker.specs.Cases.{contents, holdsLog, claimsOrder, counted, stageOf, isFresh, inRoom, loadedCase}
+use Rattle.checker.specs.Cases.{contents, holdsLog, claimsOrder, counted, stageOf, isFresh, copied, inRoom, loadedCase}
 
 -- ---- the log
 
@@ -80,23 +79,17 @@ case-loads c e = log-loads (c .bytes) (c .length) (case-holds c e)
 pub log-room : (b : List ℕ) → loadNumber b ≡ 0 → length b ≤ 1156
 log-room b e = let l = loaded b e in omega (arith, l .few, l .many, l .long)
 
--- the first i bytes of a log, with zeros behind them
-abbrev pub partIn : List ℕ → ℕ → List ℕ
-partIn b i = take i b ++ replicate (1156 - i) 0
+drop-zeros : (n m : ℕ) → drop n (replicate (n + m) 0) ≡ replicate {A = ℕ} m 0
+drop-zeros zero m = let e : 0 + m ≡ m = omega arith in ap {B = List ℕ} (λ k. replicate k 0) e
+drop-zeros (suc n) m =
+    let e : suc n + m ≡ suc (n + m) = omega arith in
+    ap {B = List ℕ} (λ k. drop (suc n) (replicate k 0)) e ∙ drop-zeros n m
 
-pub part-next : (b : List ℕ) (i : ℕ) → i < length b → length b ≤ 1156 → set (partIn b i) i (getD b i 0) ≡ partIn b (i + 1)
-part-next b i l m =
-    ap (λ (zs : List ℕ). set (take i b ++ zs) i (getD b i 0)) zeros
-    ∙ set-at (take i b) 0 (replicate (1156 - (i + 1)) 0) (getD b i 0) i (length-take-le i b (omega arith))
-    ∙ sym (append-assoc (take i b) (getD b i 0 ∷ []) (replicate (1156 - (i + 1)) 0))
-    ∙ ap (λ (xs : List ℕ). xs ++ replicate (1156 - (i + 1)) 0) (sym (take-suc b i 0 l) ∙ ap (λ k. take k b) (sym (add-one i)))
-  where
-    zeros : _≡_ {A = List ℕ} (replicate (1156 - i) 0) (0 ∷ replicate (1156 - (i + 1)) 0)
-    zeros = let e : 1156 - i ≡ suc (1156 - (i + 1)) = omega arith in ap {B = List ℕ} (λ k. replicate k 0) e
-
-pub part-all : (b : List ℕ) (i : ℕ) → i ≡ length b → partIn b i ≡ inRoom b
+pub in-room : (b r : List ℕ) → length b ≤ 1156 → r ≡ copied (length b) b (replicate 1156 0) → r ≡ inRoom b
 unfolding inRoom
-part-all b i e = ap (λ k. take k b ++ replicate (1156 - k) 0) e ∙ ap (λ (xs : List ℕ). xs ++ replicate (1156 - length b) 0) (take-length b)
+in-room b r l e =
+    let sum : 1156 ≡ length b + (1156 - length b) = omega arith in
+    e ∙ ap₂ {C = List ℕ} (λ (x y : List ℕ). x ++ y) (take-length b) (ap (λ k. drop (length b) (replicate k 0)) sum ∙ drop-zeros (length b) (1156 - length b))
 
 pub loaded-is : (b bytes : List ℕ) → bytes ≡ inRoom b → record { stage = SaysLoaded; bytes = bytes; length = length b; order = replicate 32 0 } ≡ loadedCase b
 unfolding loadedCase

@@ -1,3 +1,13 @@
+pub mod Copying
 pub mod Holding
 pub mod Loads
 pub mod Checks
+pub mod Writing
+pub mod Encodes
+pub mod Data
+pub mod Callees
+pub mod Verdicts
+pub mod Chain
+pub mod Demands
+pub mod Preparing
+pub mod Lending

@@ -9,7 +9,7 @@ use lib.Dec.{eqb}
 use borrow.Author.Tests.{eq-eqb, ne-eqb}
 use Rattle.model.specs.Log.{loadNumber}
 use Rattle.checker.specs.declared.Case.{Case}
-use Rattle.checker.specs.declared.Loading.{Loading}
+use Rattle.checker.specs.declared.Answer.{Answer}
 use Rattle.checker.specs.declared.Reply.{Reply}
 use Rattle.checker.specs.declared.Reply.the-variants.{Taken, Refused}
 use Rattle.checker.specs.Cases.{stageOf, isFresh, loadedCase}
@@ -47,7 +47,7 @@ module _ (c : Case) (b : List ℕ) where
 
   -- ---- the answer
 
-  abbrev answer : Case → Reply → Loading
+  abbrev answer : Case → Reply → Answer
   answer x r = record { case = x; reply = r }
 
   pub load-refused : (n : ℕ) → n ≡ loadRefusal c b → n ≢ 0 → record { case = c; reply = Refused n } ≡ loading c b

@@ -6,7 +6,7 @@ use lib.Dec.{eqb}
 use Rattle.model.specs.History.{size, isOrder, legal}
 use Rattle.model.specs.Log.{loadNumber}
 use Rattle.checker.specs.declared.Case.{Case}
-use Rattle.checker.specs.declared.Loading.{Loading}
+use Rattle.checker.specs.declared.Answer.{Answer}
 use Rattle.checker.specs.declared.Checking.{Checking}
 use Rattle.checker.specs.Cases.{historyIn, stageOf, isFresh, loadedCase}
 use Rattle.checker.specs.Answers.{replyOf, judgementOf}
@@ -19,7 +19,7 @@ loadRefusal c b = cond (isFresh (stageOf c)) (loadNumber b) 21
 unfoldable pub caseAfterLoad : Case → List ℕ → Case
 caseAfterLoad c b = cond (eqb (loadRefusal c b) 0) (loadedCase b) c
 
-unfoldable pub loading : Case → List ℕ → Loading
+unfoldable pub loading : Case → List ℕ → Answer
 loading c b = record { case = caseAfterLoad c b; reply = replyOf (loadRefusal c b) }
 
 -- 13 a proposed order that isn't every number below T once

@@ -3,7 +3,7 @@ use Prim.Native.Nat.{ℕ, _-_}
 use mathlib.Core.Bool.{Bool, true, false, _&&_}
 use mathlib.Core.List.{List, _++_}
 use lib.Dec.{eqb, leb}
-use lib.ListN.{length, take, replicate}
+use lib.ListN.{length, take, drop, replicate}
 use Rattle.model.specs.History.{History, isOrder}
 use Rattle.model.specs.Log.{transactionsIn, loadNumber, historyOf}
 use Rattle.checker.specs.declared.Stage.{Stage}
@@ -55,6 +55,10 @@ isFresh NoOrder = false
 -- the case that Clear gives
 unfoldable pub freshCase : Case
 freshCase = record { stage = Fresh; bytes = replicate 1156 0; length = 0; order = replicate 32 0 }
+
+-- a list with the first n numbers of another in its first places
+abbrev pub copied : ℕ → List ℕ → List ℕ → List ℕ
+copied n from ys = take n from ++ drop n ys
 
 -- a log in the room of a case, with zeros behind it
 unfoldable pub inRoom : List ℕ → List ℕ

@@ -8,6 +8,7 @@ ghost use Rattle.checker.specs.Cases.{holdsLog, claimsOrder, stageOf, is
 ghost use Rattle.checker.specs.Calls.{loadRefusal};
 use crate::Case;
 use crate::Stage;
+use crate::copies::copy_bytes;
 use replay::orders::is_order;
 
 // Whether Load takes the first `length` bytes, and there are so many.
@@ -55,17 +56,24 @@ pub(crate) fn stage_of(c: Case) -> Stage
     }
 }
 
-// Whether it counts as fresh.
-pub(crate) fn is_fresh(c: Case) -> bool
-    ensures { λ r. ⌜ r ≡ isFresh (stageOf c) ⌝ }
+// Whether a stage is fresh.
+pub(crate) fn counts_fresh(stage: Stage) -> bool
+    ensures { λ r. ⌜ r ≡ isFresh stage ⌝ }
 {
-    let stage = stage_of(c);
     match stage {
         Stage::Fresh => true,
         Stage::Loaded => false,
         Stage::Ordered => false,
         Stage::NoOrder => false,
     }
+}
+
+// Whether a case counts as fresh.
+pub(crate) fn is_fresh(c: Case) -> bool
+    ensures { λ r. ⌜ r ≡ isFresh (stageOf c) ⌝ }
+{
+    let stage = stage_of(c);
+    counts_fresh(stage)
 }
 
 // The number with which Load refuses, or 0: 21, then 1 to 11.
@@ -81,11 +89,7 @@ fn in_room(log: &[u8]) -> [u8; 1156]
     ensures { λ r. ⌜ r ≡ inRoom (now (log .entry)) ⌝ }
 {
     let mut bytes = [0u8; 1156];
-    let mut i: usize = 0;
-    while i < log.len() {
-        bytes[i] = log[i];
-        i += 1;
-    }
+    copy_bytes(log, log.len(), &mut bytes);
     bytes
 }
 

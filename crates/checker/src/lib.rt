@@ -2,11 +2,20 @@
 // Anyone may put a case together, so each call first finds the stage that it counts as (`held::stage_of`); no call requires anything.
 ghost use mathlib.Core.Path.{_≡_};
 ghost use Rattle.checker.specs.Cases.{freshCase};
+ghost use lib.ListN.{length};
 ghost use Rattle.checker.specs.Calls.{loading, loadRefusal, checking, checkRefusal, checkYes};
+ghost use Rattle.checker.specs.Results.{orderRefused, orderLeft, tableRefused, tableLeft, replying};
+ghost use Rattle.checker.specs.Encodings.{Encodes};
+ghost use Rattle.checker.specs.Decisions.{Decides};
 ghost use Rattle.checker.specs.Answers.{numberOf, judgementNumber, judgementYes};
+use model::Constraint;
 
+mod copies;
+mod deciding;
 mod held;
 mod judging;
+mod polygraphs;
+mod results;
 
 // What a case says of itself: nothing loaded; a log; a log with an order that was decided; a log that was decided to have none.
 pub enum Stage {
@@ -23,13 +32,14 @@ pub struct Case {
     pub order: [u8; 32],
 }
 
-// The answer of a call that gives nothing but itself: done, or refused with document 01's number.
+// The answer of a call that gives no number or yes or no: done, or refused with document 01's number.
 pub enum Reply {
     Taken,
     Refused(u8),
 }
 
-pub struct Loading {
+// The case after the call, and the reply.
+pub struct Answer {
     pub case: Case,
     pub reply: Reply,
 }
@@ -46,23 +56,126 @@ pub struct Checking {
     pub judgement: Judgement,
 }
 
+// The case as it was, the reply, and the count of constraints left.
+pub struct Encoding {
+    pub case: Case,
+    pub reply: Reply,
+    pub left: usize,
+}
+
+// What Decide says: there is an order; there is none; or refused with document 01's number.
+pub enum Verdict {
+    Order,
+    Without,
+    Refused(u8),
+}
+
+// The case with the answer stored, the verdict, the order as 32 numbers, and the count that Encode gives.
+pub struct Decision {
+    pub case: Case,
+    pub verdict: Verdict,
+    pub order: [u8; 32],
+    pub left: usize,
+}
+
 impl Case {
     // Reads a log into a fresh case.
-    pub fn load(self, log: &[u8]) -> Loading
+    pub fn load(self, log: &[u8]) -> Answer
         ensures result { λ r. ⌜ r ≡ loading self (now (log .entry)) ⌝ }
         ensures number { λ r. ⌜ numberOf (r .reply) ≡ loadRefusal self (now (log .entry)) ⌝ }
     {
         let number = held::load_refusal(self, log);
         if number != 0 {
-            return Loading {
+            return Answer {
                 case: self,
                 reply: Reply::Refused(number),
             };
         }
         let case = held::loaded(log);
-        Loading {
+        Answer {
             case,
             reply: Reply::Taken,
+        }
+    }
+
+    // Writes the polygraph of a setting to the two lists, and gives the count of constraints left. Proved by hand.
+    pub fn encode<'a, 'b>(
+        self,
+        encoding: u8,
+        pruning: u8,
+        list: &'a mut [Constraint],
+        rows: &'b mut [u32],
+    ) -> Encoding
+        ensures { λ r. ⌜ Encodes self encoding pruning (now (list .entry)) (now (rows .entry)) r (now (list .exit)) (now (rows .exit)) ⌝ }
+    {
+        let p = polygraphs::planned(self, encoding, pruning, list.len(), rows.len());
+        if p.number != 0 {
+            return polygraphs::answer(self, p.number, 0);
+        }
+        let r = encoding::write(p.words, p.rows, p.count, pruning, list);
+        polygraphs::put_rows(r.rows, rows);
+        polygraphs::answer(self, 0, r.left)
+    }
+
+    // Writes the constraints of a setting to the list, as Encode does; stores and gives the first legal order, or 'no order'. Proved by hand.
+    pub fn decide(self, encoding: u8, pruning: u8, list: &mut [Constraint]) -> Decision
+        ensures { λ r. ⌜ Decides self encoding pruning (now (list .entry)) r (now (list .exit)) ⌝ }
+    {
+        let p = deciding::prepare(self, encoding, pruning, list.len());
+        let w = encoding::write(p.words, p.rows, p.count, p.pruning, list);
+        deciding::answered(self, p.number, encoding, w.left)
+    }
+
+    // Writes the order's T numbers as bytes.
+    pub fn order(self, out: &mut [u8]) -> Answer
+        ensures result { λ r. ⌜ r ≡ replying self (orderRefused self (length (now (out .entry)))) ⌝ }
+        ensures number { λ r. ⌜ numberOf (r .reply) ≡ orderRefused self (length (now (out .entry))) ⌝ }
+        ensures list { λ r. ⌜ now (out .exit) ≡ orderLeft self (now (out .entry)) ⌝ }
+    {
+        let number = results::order_refused(self, out.len());
+        if number != 0 {
+            return Answer {
+                case: self,
+                reply: Reply::Refused(number),
+            };
+        }
+        results::write_order(self, out);
+        Answer {
+            case: self,
+            reply: Reply::Taken,
+        }
+    }
+
+    // Writes the table that the order leaves: 32 values, by key.
+    pub fn table(self, out: &mut [u16]) -> Answer
+        ensures result { λ r. ⌜ r ≡ replying self (tableRefused self (length (now (out .entry)))) ⌝ }
+        ensures number { λ r. ⌜ numberOf (r .reply) ≡ tableRefused self (length (now (out .entry))) ⌝ }
+        ensures list { λ r. ⌜ now (out .exit) ≡ tableLeft self (now (out .entry)) ⌝ }
+    {
+        let number = results::table_refused(self, out.len());
+        if number != 0 {
+            return Answer {
+                case: self,
+                reply: Reply::Refused(number),
+            };
+        }
+        results::write_table(self, out);
+        Answer {
+            case: self,
+            reply: Reply::Taken,
+        }
+    }
+
+    // Says whether a proposed order is legal, and changes nothing.
+    pub fn check(self, proposed: &[u8]) -> Checking
+        ensures result { λ r. ⌜ r ≡ checking self (now (proposed .entry)) ⌝ }
+        ensures number { λ r. ⌜ judgementNumber (r .judgement) ≡ checkRefusal self (now (proposed .entry)) ⌝ }
+        ensures yes { λ r. ⌜ judgementYes (r .judgement) ≡ checkYes self (now (proposed .entry)) ⌝ }
+    {
+        let judgement = judging::judged(self, proposed);
+        Checking {
+            case: self,
+            judgement,
         }
     }
 
@@ -75,18 +188,6 @@ impl Case {
             bytes: [0; 1156],
             length: 0,
             order: [0; 32],
-        }
-    }
-    // Says whether a proposed order is legal, and changes nothing.
-    pub fn check(self, proposed: &[u8]) -> Checking
-        ensures result { λ r. ⌜ r ≡ checking self (now (proposed .entry)) ⌝ }
-        ensures number { λ r. ⌜ judgementNumber (r .judgement) ≡ checkRefusal self (now (proposed .entry)) ⌝ }
-        ensures yes { λ r. ⌜ judgementYes (r .judgement) ≡ checkYes self (now (proposed .entry)) ⌝ }
-    {
-        let judgement = judging::judged(self, proposed);
-        Checking {
-            case: self,
-            judgement,
         }
     }
 }

@@ -132,7 +132,7 @@ sorted-arrangements (suc m) xs a =
 
 -- ---- the first legal order
 
-legal-order : (h : History) (o : List ℕ) → T (legal h o) → T (isOrder (size h) o)
+pub legal-order : (h : History) (o : List ℕ) → T (legal h o) → T (isOrder (size h) o)
 unfolding legal
 legal-order h o t = and-l (isOrder (size h) o) (keepsCabinets h o && everyReadExplained h o) t
 

@@ -1,0 +1,67 @@
+-- `checker::copies::copy_bytes` meets its contract. Assumes nothing.
+use Rattle.checker.proofs.Copying.{copied-next, copied-long}
+use Rattle.checker.specs.Cases.{copied}
+use lib.ListN.{length, set, getD}
+use mathlib.Core.Path.{_≡_, refl, ap, _∙_}
+use borrow.Author.Needs.{needs}
+use native.Mathlib.Omega.{arith}
+use Prim.Native.Nat.{_≤_, _-_}
+use Rattle.checker.proofs.copies.copy_bytes.Statement.{statement}
+use Rattle.checker.proofs.copies.copy_bytes.Tie as tie
+
+abbrev Inv-loop : tie.InvT-loop
+Inv-loop from n out₀ i₀ out i = (i ≤ n) × (out ≡ copied i from out₀)
+
+abbrev μ-loop : tie.MeasureT-loop
+μ-loop from n out₀ i₀ out i = n - i
+
+loop-holds : tie.Need-loop-holds Inv-loop μ-loop
+loop-holds c = (omega arith, refl)
+
+shared-slice-read-out : tie.Need-shared-slice-read-out Inv-loop μ-loop
+shared-slice-read-out c = search needs
+
+slice-write-out : tie.Need-slice-write-out Inv-loop μ-loop
+slice-write-out c =
+    let s = c .before .before .before in
+    let l = c .before .before .loop in
+    omega (arith, ap length (l .inv .1), copied-long (s .args .from .now) (s .args .out .now) (l .i) (omega arith) (omega arith))
+
+add-i : tie.Need-add-i Inv-loop μ-loop
+add-i c = search needs
+
+loop-less : tie.Need-loop-less Inv-loop μ-loop
+loop-less c = search needs
+
+loop-again : tie.Need-loop-again Inv-loop μ-loop
+loop-again c =
+    let s = c .before .before .before in
+    let l = c .before .before .loop in
+    (omega arith, ap (λ x. set x (l .i) (getD (s .args .from .now) (l .i) 0)) (l .inv .1) ∙ copied-next (s .args .from .now) (s .args .out .now) (l .i) (omega arith) (omega arith))
+
+same-length : tie.Need-same-length Inv-loop μ-loop
+same-length c =
+    let s = c .before .before in
+    let l = c .before .loop in
+    ap length (l .inv .1) ∙ copied-long (s .args .from .now) (s .args .out .now) (l .i) (omega arith) (omega arith)
+
+returns : tie.Need-returns Inv-loop μ-loop
+returns c =
+    let l = c .before .loop in
+    let end : l .i ≡ c .before .before .args .n = omega arith in
+    l .inv .1 ∙ ap (λ k. copied k (c .before .before .args .from .now) (c .before .before .args .out .now)) end
+
+pub copy-bytes-spec : {M : Type 1} → statement M
+copy-bytes-spec =
+    tie.close
+    (tie.spec
+    Inv-loop
+    μ-loop
+    loop-holds
+    shared-slice-read-out
+    slice-write-out
+    add-i
+    loop-less
+    loop-again
+    same-length
+    returns)

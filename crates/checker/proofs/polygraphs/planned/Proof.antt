@@ -1,0 +1,69 @@
+-- `checker::polygraphs::planned` meets its contract. Assumes nothing.
+use mathlib.Core.Path.{_≡_, sym, _∙_}
+use lib.Seq.{length-take-le}
+use Rattle.checker.proofs.Holding.{case-holds, case-loads, log-fits}
+use Rattle.checker.proofs.Encodes.{setting-zero, plans-fresh, plans-setting, plans-counted}
+use borrow.Author.Needs.{needs}
+use Rattle.checker.proofs.polygraphs.planned.Statement.{statement}
+use Rattle.checker.proofs.polygraphs.planned.Tie as tie
+
+is-fresh-requires : tie.Need-is-fresh-requires
+is-fresh-requires c κs = search needs
+
+unplanned-requires : tie.Need-unplanned-requires
+unplanned-requires c κs = search needs
+
+returns : tie.Need-returns
+returns c =
+    let a = c .before .before .before .args in
+    plans-fresh (a .c) (a .encoding) (a .pruning) (a .places) (a .words) _ (sym (c .before .before .is-fresh .ensures) ∙ c .before .if1 .taken) (c .unplanned .ensures)
+
+setting-refusal-requires : tie.Need-setting-refusal-requires
+setting-refusal-requires c κs = search needs
+
+unplanned-requires-2 : tie.Need-unplanned-requires-2
+unplanned-requires-2 c κs = search needs
+
+returns-2 : tie.Need-returns-2
+returns-2 c =
+    let a = c .before .before .before .before .before .args in
+    let e = c .before .before .setting-refusal .ensures in
+    plans-setting (a .c) (a .encoding) (a .pruning) (a .places) (a .words) _ (sym (c .before .before .before .before .is-fresh .ensures) ∙ c .before .before .before .if1 .left) (λ z. c .before .if2 .taken (e ∙ z)) (c .unplanned2 .ensures ∙ e)
+
+array-share-prefix-bytes : tie.Need-array-share-prefix-bytes
+array-share-prefix-bytes c =
+    log-fits _ _ (case-holds (c .before .before .before .before .before .args .c) (sym (c .before .before .before .before .is-fresh .ensures) ∙ c .before .before .before .if1 .left))
+
+slice-aggregate-prepare : tie.Need-slice-aggregate-prepare
+slice-aggregate-prepare c =
+    sym (length-take-le _ _ (log-fits _ _ (case-holds (c .before .before .before .before .before .before .args .c) (sym (c .before .before .before .before .before .is-fresh .ensures) ∙ c .before .before .before .before .if1 .left))))
+
+prepare-requires : tie.Need-prepare-requires
+prepare-requires c κs = (
+  case-loads (c .before .before .before .before .before .before .args .c) (sym (c .before .before .before .before .before .is-fresh .ensures) ∙ c .before .before .before .before .if1 .left),
+  setting-zero (c .before .before .before .before .before .before .args .encoding) (c .before .before .before .before .before .before .args .pruning) (sym (c .before .before .before .setting-refusal .ensures) ∙ c .before .before .if2 .left),
+)
+
+places-refusal-requires : tie.Need-places-refusal-requires
+places-refusal-requires c κs = search needs
+
+returns-3 : tie.Need-returns-3
+returns-3 c =
+    let a = c .before .before .before .before .before .before .before .before .before .before .args in
+    plans-counted (a .c) (a .encoding) (a .pruning) (a .places) (a .words) _ (sym (c .before .before .before .before .before .before .before .before .before .is-fresh .ensures) ∙ c .before .before .before .before .before .before .before .before .if1 .left) (sym (c .before .before .before .before .before .before .before .setting-refusal .ensures) ∙ c .before .before .before .before .before .before .if2 .left) (c .before .before .before .prepare .ensures) (c .places-refusal .ensures)
+
+pub planned-spec : {M : Type 1} → statement M
+planned-spec =
+    tie.close
+    (tie.spec
+    is-fresh-requires
+    unplanned-requires
+    returns
+    setting-refusal-requires
+    unplanned-requires-2
+    returns-2
+    array-share-prefix-bytes
+    slice-aggregate-prepare
+    prepare-requires
+    places-refusal-requires
+    returns-3)

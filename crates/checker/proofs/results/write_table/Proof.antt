@@ -1,0 +1,87 @@
+-- `checker::results::write_table` meets its contract. Assumes nothing.
+use Rattle.checker.proofs.Writing.{table-stage, table-room, ordered-holds, ordered-order, table-written}
+use Rattle.checker.proofs.Holding.{log-fits, log-loads}
+use Rattle.checker.specs.Cases.{contents}
+use Rattle.model.specs.Log.{transactionsIn}
+use Rattle.model.specs.History.{isOrder}
+use lib.Seq.{length-take-le}
+use lib.ListN.{length, take}
+use lib.Dec.{T}
+use mathlib.Core.Path.{_≡_, sym, ap, subst}
+use native.Mathlib.Omega.{arith}
+use borrow.Author.Needs.{needs}
+use Rattle.checker.proofs.results.write_table.Statement.{statement}
+use Rattle.checker.proofs.results.write_table.Tie as tie
+
+array-share-prefix-bytes : tie.Need-array-share-prefix-bytes
+array-share-prefix-bytes c =
+    log-fits _ _ (ordered-holds (c .before .before .before .args .c) (table-stage (c .before .before .before .args .c) _ (c .before .before .before .pre)))
+
+slice-aggregate-transactions : tie.Need-slice-aggregate-transactions
+slice-aggregate-transactions c =
+    sym (length-take-le _ _ (log-fits _ _ (ordered-holds (c .before .before .before .before .args .c) (table-stage (c .before .before .before .before .args .c) _ (c .before .before .before .before .pre)))))
+
+transactions-requires : tie.Need-transactions-requires
+transactions-requires c κs =
+    log-loads _ _ (ordered-holds (c .before .before .before .before .args .c) (table-stage (c .before .before .before .before .args .c) _ (c .before .before .before .before .pre)))
+
+array-share-prefix-bytes-2 : tie.Need-array-share-prefix-bytes-2
+array-share-prefix-bytes-2 c =
+    log-fits _ _ (ordered-holds (c .before .before .before .before .before .args .c) (table-stage (c .before .before .before .before .before .args .c) _ (c .before .before .before .before .before .pre)))
+
+slice-aggregate-table : tie.Need-slice-aggregate-table
+slice-aggregate-table c =
+    sym (length-take-le _ _ (log-fits _ _ (ordered-holds (c .before .before .before .before .before .before .args .c) (table-stage (c .before .before .before .before .before .before .args .c) _ (c .before .before .before .before .before .before .pre)))))
+
+array-share-prefix-order : tie.Need-array-share-prefix-order
+array-share-prefix-order c =
+    let long : length (c .before .before .before .before .before .before .args .c .order) ≡ 32 = search needs in
+    omega (arith, c .before .transactions .ensures .1)
+
+slice-aggregate-table-2 : tie.Need-slice-aggregate-table-2
+slice-aggregate-table-2 c =
+    let long : length (c .before .before .before .before .before .before .before .args .c .order) ≡ 32 = search needs in
+    sym (length-take-le _ _ (omega (arith, c .before .before .transactions .ensures .1)))
+
+table-requires : tie.Need-table-requires
+table-requires c κs =
+    let s = c .before .before .before .before .before .before .before in
+    let stage = table-stage (s .args .c) _ (s .pre) in (
+      log-loads _ _ (ordered-holds (s .args .c) stage),
+      subst (λ n. T (isOrder (transactionsIn (contents (s .args .c))) (take n (s .args .c .order)))) (sym (c .before .before .transactions .ensures .0)) (ordered-order (s .args .c) stage),
+    )
+
+slice-aggregate-copy-values : tie.Need-slice-aggregate-copy-values
+slice-aggregate-copy-values c = search needs
+
+copy-values-requires : tie.Need-copy-values-requires
+copy-values-requires c κs =
+    let s = c .before .before .before .before .before .before .before .before .before .before in
+    let long : length (c .before .before .table .result) ≡ 32 = search needs in
+    (omega arith, omega (arith, table-room (s .args .c) (length (s .args .out .now)) (s .pre)))
+
+same-length : tie.Need-same-length
+same-length c = search needs
+
+returns : tie.Need-returns
+returns c =
+    let s = c .before .before .before .before .before .before .before .before .before .before .before .before .before in
+    let long : length (c .before .before .before .before .before .table .result) ≡ 32 = search needs in
+    table-written (s .args .c) (s .args .out .now) _ _ _ (c .before .before .before .before .before .before .before .before .transactions .ensures .0) long (c .before .before .before .before .before .table .ensures) (c .before .before .copy-values .ensures)
+
+pub write-table-spec : {M : Type 1} → statement M
+write-table-spec =
+    tie.close
+    (tie.spec
+    array-share-prefix-bytes
+    slice-aggregate-transactions
+    transactions-requires
+    array-share-prefix-bytes-2
+    slice-aggregate-table
+    array-share-prefix-order
+    slice-aggregate-table-2
+    table-requires
+    slice-aggregate-copy-values
+    copy-values-requires
+    same-length
+    returns)

@@ -1,0 +1,11 @@
+pub mod Seeks
+pub mod Lists
+pub mod Data
+pub mod Whole
+pub mod Between
+pub mod Tailing
+pub mod RunTables
+pub mod Counts
+pub mod PlainFill
+pub mod PlainList
+pub mod Rows

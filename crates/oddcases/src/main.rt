@@ -1,0 +1,176 @@
+// Cases put together outside the calls, of each odd kind: what Load of a good log, Check, Order and Table say of each. 100 stands for a legal order.
+// The log is document 01's example, whose order is 1 0.
+use checker::Case;
+use checker::Stage;
+use samples::check_number;
+use samples::fresh;
+use samples::lines::byte;
+use samples::lines::end;
+use samples::lines::number;
+use samples::lines::text;
+use samples::lines::value;
+use samples::lines::yes_no;
+use samples::load_number;
+use samples::loaded;
+use samples::reply_number;
+use samples::same_case;
+use samples::with_byte;
+
+// The case that holds the example.
+fn example() -> Case {
+    loaded(
+        b"\x02\x00\x03\x00\x00\x02\x00\x00\x01\x01\x02\x00\x00\x00\x01\x00\x01\x01\x07\x00\x01\x00\x05\x00",
+    )
+}
+
+// The example's case with another stage, length and order: two numbers and the rest.
+fn made(stage: Stage, length: usize, first: u8, second: u8, rest: u8) -> Case {
+    let c = example();
+    let bytes = c.bytes;
+    let mut order = [rest; 32];
+    order[0] = first;
+    order[1] = second;
+    Case {
+        stage,
+        bytes,
+        length,
+        order,
+    }
+}
+
+// The same with a kind 2 in its first body.
+fn damaged(stage: Stage) -> Case {
+    let c = example();
+    let whole = c.bytes;
+    let bytes = with_byte(whole, 12, 2);
+    Case {
+        stage,
+        bytes,
+        length: 24,
+        order: [0; 32],
+    }
+}
+
+// The number of Order with two places, and whether the case and the places are as they were.
+fn order_line(c: Case) {
+    let mut out = [9u8; 2];
+    let a = c.order(&mut out);
+    let r = a.reply;
+    number(reply_number(r));
+    byte(out[0]);
+    byte(out[1]);
+    let after = a.case;
+    yes_no(same_case(c, after));
+}
+
+// The number of Table with 32 places, and the values of keys 0 and 1.
+fn table_line(c: Case) {
+    let mut out = [9u16; 32];
+    let a = c.table(&mut out);
+    let r = a.reply;
+    number(reply_number(r));
+    value(out[0]);
+    value(out[1]);
+    let after = a.case;
+    yes_no(same_case(c, after));
+}
+
+// A line of a case: load; check of 1 0; order, its two places, case as it was; table, its first two values, case as it was.
+fn show(name: &[u8], c: Case) {
+    text(name);
+    number(load_number(c, b"\x00\x00\x00\x00"));
+    number(check_number(c, b"\x01\x00"));
+    order_line(c);
+    table_line(c);
+    end();
+}
+
+fn fresh_ones() {
+    show(b"says fresh, holds a log:", made(Stage::Fresh, 24, 1, 0, 0));
+    show(b"says loaded, a damaged log:", damaged(Stage::Loaded));
+    show(b"says loaded, length 0:", made(Stage::Loaded, 0, 1, 0, 0));
+    show(b"says loaded, length 23:", made(Stage::Loaded, 23, 1, 0, 0));
+    show(
+        b"says loaded, length 1157:",
+        made(Stage::Loaded, 1157, 1, 0, 0),
+    );
+    show(
+        b"says ordered, the highest length:",
+        made(Stage::Ordered, 18446744073709551615, 1, 0, 0),
+    );
+    show(b"says ordered, a damaged log:", damaged(Stage::Ordered));
+    show(b"says no order, a damaged log:", damaged(Stage::NoOrder));
+}
+
+fn loaded_ones() {
+    show(b"says loaded:", made(Stage::Loaded, 24, 1, 0, 0));
+    show(b"says ordered 0 0:", made(Stage::Ordered, 24, 0, 0, 0));
+    show(b"says ordered 1 1:", made(Stage::Ordered, 24, 1, 1, 0));
+    show(b"says ordered 2 0:", made(Stage::Ordered, 24, 2, 0, 1));
+    show(
+        b"says ordered 255 255:",
+        made(Stage::Ordered, 24, 255, 255, 255),
+    );
+}
+
+fn decided_ones() {
+    show(b"says ordered 1 0:", made(Stage::Ordered, 24, 1, 0, 0));
+    show(
+        b"says ordered 1 0, 255 behind:",
+        made(Stage::Ordered, 24, 1, 0, 255),
+    );
+    show(
+        b"says ordered 0 1, not legal:",
+        made(Stage::Ordered, 24, 0, 1, 0),
+    );
+    show(b"says no order:", made(Stage::NoOrder, 24, 1, 0, 0));
+}
+
+// Lists too short and longer than needed: 25, and the further place as it was.
+fn lists() {
+    let c = made(Stage::Ordered, 24, 1, 0, 0);
+    let mut short = [9u8; 1];
+    let a = c.order(&mut short);
+    let r = a.reply;
+    text(b"order, 1 place; 3 places:");
+    number(reply_number(r));
+    byte(short[0]);
+    let mut long = [9u8; 3];
+    let b = c.order(&mut long);
+    let s = b.reply;
+    number(reply_number(s));
+    byte(long[0]);
+    byte(long[1]);
+    byte(long[2]);
+    end();
+}
+
+fn tables() {
+    let c = made(Stage::Ordered, 24, 1, 0, 0);
+    let mut short = [9u16; 31];
+    let a = c.table(&mut short);
+    let r = a.reply;
+    text(b"table, 31 places; 33 places:");
+    number(reply_number(r));
+    value(short[30]);
+    let mut long = [9u16; 33];
+    let b = c.table(&mut long);
+    let s = b.reply;
+    number(reply_number(s));
+    value(long[0]);
+    value(long[31]);
+    value(long[32]);
+    end();
+}
+
+fn main() {
+    fresh_ones();
+    loaded_ones();
+    decided_ones();
+    lists();
+    tables();
+    text(b"clear gives the fresh case of each kind:");
+    yes_no(same_case(damaged(Stage::Ordered).clear(), fresh()));
+    yes_no(same_case(made(Stage::NoOrder, 1157, 1, 2, 3).clear(), fresh()));
+    end();
+}

@@ -1,0 +1,285 @@
+// Check on every list of four numbers, against a direct replay, over many small histories of four transactions with two operations each.
+use samples::at;
+use samples::check_number;
+use samples::lines::end;
+use samples::lines::number;
+use samples::lines::text;
+use samples::loaded;
+use std::num::wrapping_add_u64;
+
+// ---- histories
+
+// A number that hangs on both others.
+fn mixed(x: u64) -> u64 {
+    let a = x ^ (x << 13);
+    let b = a ^ (a >> 7);
+    b ^ (b << 17)
+}
+
+fn chance(h: u64, k: u64) -> u64 {
+    mixed(mixed(mixed(wrapping_add_u64(h << 8, k) ^ 88172645463325252)))
+}
+
+// The kind, key and argument of an operation.
+pub struct Op {
+    pub kind: u8,
+    pub key: u8,
+    pub argument: u8,
+}
+
+// A read in one of four: few enough reads that some lists are legal.
+fn kind_of(c: u64) -> u8 {
+    if c / 32 % 4 == 0 { 0 } else { 1 }
+}
+
+// A read names one of the four transactions, or 4 for the starting value.
+fn first_op(h: u64, t: u64) -> Op {
+    let c = chance(h, t % 4 * 4 + 100);
+    Op {
+        kind: kind_of(c),
+        key: (c / 2 % 2) as u8,
+        argument: (c / 4 % 5) as u8,
+    }
+}
+
+fn other(key: u8) -> u8 {
+    if key == 0 { 1 } else { 0 }
+}
+
+// After a write of a key only the other is left, after a read of it a write of it too.
+fn second_op(h: u64, t: u64) -> Op {
+    let a = first_op(h, t);
+    let c = chance(h, t % 4 * 4 + 101);
+    let key = (c / 2 % 2) as u8;
+    let argument = (c / 4 % 5) as u8;
+    if a.kind == 1 {
+        return Op {
+            kind: kind_of(c),
+            key: other(a.key),
+            argument,
+        };
+    }
+    if key == a.key {
+        return Op {
+            kind: 1,
+            key,
+            argument,
+        };
+    }
+    Op {
+        kind: kind_of(c),
+        key,
+        argument,
+    }
+}
+
+// Byte f of a body.
+fn op_byte(o: Op, f: u64) -> u8 {
+    let started = o.kind == 0 && o.argument == 4;
+    match f {
+        0 => o.kind,
+        1 => o.key,
+        2 => if started { 255 } else { o.argument },
+        _ => if started { 255 } else { 0 },
+    }
+}
+
+// Byte i of the log of history h.
+fn log_byte(h: u64, i: u64) -> u8 {
+    if i < 4 {
+        return match i {
+            0 => 4,
+            2 => 8,
+            _ => 0,
+        };
+    }
+    if i < 20 {
+        let t = (i - 4) / 4;
+        return match i % 4 {
+            0 => (chance(h, t) % 6) as u8,
+            1 => 2,
+            2 => (t % 4 * 2) as u8,
+            _ => 0,
+        };
+    }
+    let m = (i - 20) / 4 % 8;
+    if m % 2 == 0 {
+        op_byte(first_op(h, m / 2), i % 4)
+    } else {
+        op_byte(second_op(h, m / 2), i % 4)
+    }
+}
+
+fn log_of(h: u64) -> [u8; 52] {
+    let mut out = [0u8; 52];
+    let mut i: usize = 0;
+    while i < 52 {
+        out[i] = log_byte(h, i as u64);
+        i += 1;
+    }
+    out
+}
+
+// ---- the direct replay
+
+// Whether the four numbers are below 4, and no two the same.
+fn is_permutation(list: [u8; 4]) -> bool {
+    let a = list[0];
+    let b = list[1];
+    let c = list[2];
+    let d = list[3];
+    a < 4 && b < 4 && c < 4 && d < 4 && a != b && a != c && a != d && b != c && b != d && c != d
+}
+
+// Whether transaction a may stand before b: not where one cabinet sent both and b comes first.
+fn may_precede(log: &[u8], a: u8, b: u8) -> bool {
+    if a < b {
+        return true;
+    }
+    at(log, 4 + 4 * (a as usize)) != at(log, 4 + 4 * (b as usize))
+}
+
+fn cabinets_kept(log: &[u8], list: [u8; 4]) -> bool {
+    let a = list[0];
+    let b = list[1];
+    let c = list[2];
+    let d = list[3];
+    may_precede(log, a, b)
+        && may_precede(log, a, c)
+        && may_precede(log, a, d)
+        && may_precede(log, b, c)
+        && may_precede(log, b, d)
+        && may_precede(log, c, d)
+}
+
+// Whether transaction t writes the key.
+fn writes(log: &[u8], t: u8, key: u8) -> bool {
+    let first = 20 + 8 * (t as usize);
+    if at(log, first) == 1 && at(log, first + 1) == key {
+        return true;
+    }
+    at(log, first + 4) == 1 && at(log, first + 5) == key
+}
+
+// The last writer of the key among the first i transactions of the list, or 255.
+fn last_writer(log: &[u8], list: [u8; 4], i: usize, key: u8) -> u8 {
+    let mut found: u8 = 255;
+    let mut j: usize = 0;
+    while j < i {
+        if writes(log, at(&list, j), key) {
+            found = at(&list, j);
+        }
+        j += 1;
+    }
+    found
+}
+
+// Whether the body at a byte number, of the transaction at place i, is explained, if it is a read.
+fn body_explained(log: &[u8], list: [u8; 4], i: usize, body: usize) -> bool {
+    if body > 51 {
+        return true;
+    }
+    if at(log, body) == 1 {
+        return true;
+    }
+    last_writer(log, list, i, at(log, body + 1)) == at(log, body + 2)
+}
+
+fn place_explained(log: &[u8], list: [u8; 4], i: usize) -> bool {
+    let first = 20 + 8 * (at(&list, i) as usize);
+    body_explained(log, list, i, first) && body_explained(log, list, i, first + 4)
+}
+
+// 13 where the list is no permutation, 100 where it is legal, else 101.
+fn direct(log: &[u8], list: [u8; 4]) -> u64 {
+    if !is_permutation(list) {
+        return 13;
+    }
+    if !cabinets_kept(log, list) {
+        return 101;
+    }
+    if place_explained(log, list, 0)
+        && place_explained(log, list, 1)
+        && place_explained(log, list, 2)
+        && place_explained(log, list, 3)
+    {
+        100
+    } else {
+        101
+    }
+}
+
+// ---- the comparison
+
+pub struct Tally {
+    pub refused: u64,
+    pub legal: u64,
+    pub illegal: u64,
+    pub different: u64,
+}
+
+fn more(n: u64, yes: bool) -> u64 {
+    if yes { wrapping_add_u64(n, 1) } else { n }
+}
+
+// One answer more: of Check, and of the direct replay.
+fn told(s: Tally, check: u64, replay: u64) -> Tally {
+    Tally {
+        refused: more(s.refused, check == 13),
+        legal: more(s.legal, check == 100),
+        illegal: more(s.illegal, check == 101),
+        different: more(s.different, check != replay),
+    }
+}
+
+// List number k: its four numbers are 0 to 3.
+fn one_list(s: Tally, h: u64, k: u64) -> Tally {
+    let log = log_of(h);
+    let list = [
+        (k % 4) as u8,
+        (k / 4 % 4) as u8,
+        (k / 16 % 4) as u8,
+        (k / 64 % 4) as u8,
+    ];
+    told(s, check_number(loaded(&log), &list), direct(&log, list))
+}
+
+fn all_lists(s: Tally, h: u64) -> Tally {
+    let mut out = s;
+    let mut k: u64 = 0;
+    while k < 256 {
+        let next = one_list(out, h, k);
+        out = next;
+        k += 1;
+    }
+    out
+}
+
+fn all_histories(n: u64) -> Tally {
+    let mut out = Tally {
+        refused: 0,
+        legal: 0,
+        illegal: 0,
+        different: 0,
+    };
+    let mut h: u64 = 0;
+    while h < n {
+        let next = all_lists(out, h);
+        out = next;
+        h += 1;
+    }
+    out
+}
+
+fn main() {
+    let t = all_histories(400);
+    text(b"400 histories, all lists of four numbers: refused");
+    number(t.refused);
+    text(b", legal");
+    number(t.legal);
+    text(b", not legal");
+    number(t.illegal);
+    text(b", different from the direct replay");
+    number(t.different);
+    end();
+}

@@ -1,0 +1,5 @@
+pub mod Marks
+pub mod ReadTable
+pub mod Filling
+pub mod RowLaws
+pub mod RowWords

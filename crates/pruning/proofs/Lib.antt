@@ -1,0 +1,5 @@
+pub mod Steps
+pub mod Turns
+pub mod Zeros
+pub mod Data
+pub mod Callees

@@ -1,0 +1,191 @@
+// Pruning over the list of constraints that the caller lends: scanned and compacted in place, in passes until one drops none.
+// The known edges travel by value, and beside them their closed rows, kept closed as edges are added.
+ghost use mathlib.Core.Path.{_≡_};
+ghost use mathlib.Core.List.{List, _++_};
+ghost use Prim.Native.Nat.{ℕ, _-_, _<_, _≤_};
+ghost use lib.ListN.{length, take, drop, replicate};
+ghost use Rattle.model.specs.Polygraph.{reach};
+ghost use Rattle.model.specs.Lent.{noConstraint};
+ghost use Rattle.pruning.specs.Passes.{Placed, Aims, verdictOf, firstPlace, nextPlace, Skimmed, Pruning};
+use model::Constraint;
+
+// What a pass does with a constraint: `drops` is 1 where it drops it, and then the edges from each source in `from` to `to` are added.
+pub struct Verdict {
+    pub drops: usize,
+    pub from: u32,
+    pub to: u32,
+}
+
+// Where a pass stands: at the constraint `at` of those below `end`, with `kept` at the front. `on` is 0 once a pass has dropped none.
+pub struct Place {
+    pub at: usize,
+    pub kept: usize,
+    pub end: usize,
+    pub on: usize,
+}
+
+// The next constraint that is dropped, with the side that is added, or the end of the pass, with no edges to add.
+pub struct Hit {
+    pub at: usize,
+    pub kept: usize,
+    pub from: u32,
+    pub to: u32,
+}
+
+// The known edges as pruning leaves them, and the count of constraints left.
+pub struct Pruned {
+    pub rows: [u32; 32],
+    pub left: usize,
+}
+
+// What a pass does with a constraint, by the closed rows so far.
+pub fn judge(closed: &[u32; 32], c: Constraint) -> Verdict
+    requires { ⌜ Placed c ⌝ }
+    ensures { λ r. ⌜ ((g : List ℕ) → now (closed .entry) ≡ reach g → r ≡ verdictOf g c) ⌝ }
+{
+    if graph::closed_off(closed, c.fromA, c.toA) {
+        return Verdict {
+            drops: 1,
+            from: c.fromB,
+            to: c.toB,
+        };
+    }
+    if graph::closed_off(closed, c.fromB, c.toB) {
+        return Verdict {
+            drops: 1,
+            from: c.fromA,
+            to: c.toA,
+        };
+    }
+    Verdict {
+        drops: 0,
+        from: 0,
+        to: 0,
+    }
+}
+
+// Constraints that stay are moved to the front, up to the next that is dropped: a thin loop, proved by hand.
+pub fn skim<'a, 'b>(
+    closed: &'a [u32; 32],
+    list: &'b mut [Constraint],
+    at: usize,
+    kept: usize,
+    end: usize,
+) -> Hit
+    requires { ⌜ (kept ≤ at) × (at ≤ end) × (end ≤ length (now list)) × Aims (now list) end ⌝ }
+    ensures { λ r. ⌜ ((g : List ℕ) → now (closed .entry) ≡ reach g → Skimmed g (now (list .entry)) at kept end r (now (list .exit))) ⌝ }
+{
+    let mut i = at;
+    let mut j = kept;
+    let mut v = Verdict {
+        drops: 0,
+        from: 0,
+        to: 0,
+    };
+    while i < end {
+        let c = list[i];
+        v = judge(closed, c);
+        if v.drops == 1 {
+            break;
+        }
+        list[j] = c;
+        j += 1;
+        i += 1;
+    }
+    Hit {
+        at: i,
+        kept: j,
+        from: v.from,
+        to: v.to,
+    }
+}
+
+// Where the pass goes on after a hit; at its end the next one starts, over those left, unless it dropped none.
+pub fn after(p: Place, h: Hit) -> Place
+    requires { ⌜ h .at ≤ p .end ⌝ }
+    ensures { λ r. ⌜ r ≡ nextPlace p h ⌝ }
+{
+    if h.at < p.end {
+        return Place {
+            at: h.at + 1,
+            kept: h.kept,
+            end: p.end,
+            on: 1,
+        };
+    }
+    if h.kept < p.end {
+        return Place {
+            at: 0,
+            kept: 0,
+            end: h.kept,
+            on: 1,
+        };
+    }
+    Place {
+        at: h.at,
+        kept: h.kept,
+        end: p.end,
+        on: 0,
+    }
+}
+
+// Where pruning of n constraints starts; with pruning 0 all are kept, and no pass is on.
+pub fn begin(n: usize, pruning: u8) -> Place
+    ensures { λ r. ⌜ r ≡ firstPlace n pruning ⌝ }
+{
+    if pruning == 1 {
+        Place {
+            at: 0,
+            kept: 0,
+            end: n,
+            on: 1,
+        }
+    } else {
+        Place {
+            at: n,
+            kept: n,
+            end: n,
+            on: 0,
+        }
+    }
+}
+
+// With pruning 1, passes over the first n constraints, until one drops none: those left stand first, in their order. A thin loop, proved by hand.
+pub fn prune(rows: [u32; 32], list: &mut [Constraint], n: usize, pruning: u8) -> Pruned
+    requires { ⌜ (n ≤ length (now list)) × Aims (now list) n ⌝ }
+    ensures { λ r. ⌜ Pruning rows (now (list .entry)) n pruning r (now (list .exit)) ⌝ }
+{
+    let mut known = rows;
+    let mut closed = graph::closure(rows);
+    let mut p = begin(n, pruning);
+    while p.on == 1 {
+        let h = skim(&closed, list, p.at, p.kept, p.end);
+        p = after(p, h);
+        let next = graph::add_side(known, h.from, h.to);
+        known = next;
+        let grown = graph::extend(closed, h.from, h.to);
+        closed = grown;
+    }
+    Pruned {
+        rows: known,
+        left: p.kept,
+    }
+}
+
+// Four zeros in each place from `from` on, below `end`: a thin loop, proved by hand.
+pub fn clear(list: &mut [Constraint], from: usize, end: usize)
+    requires { ⌜ (from ≤ end) × (end ≤ length (now list)) ⌝ }
+    ensures { λ _. ⌜ now (list .exit) ≡ take from (now (list .entry)) ++ (replicate (end - from) noConstraint ++ drop end (now (list .entry))) ⌝ }
+{
+    let zeros = Constraint {
+        fromA: 0,
+        toA: 0,
+        fromB: 0,
+        toB: 0,
+    };
+    let mut i = from;
+    while i < end {
+        list[i] = zeros;
+        i += 1;
+    }
+}

@@ -1,0 +1,107 @@
+-- Input longer than any log, 1,156 bytes, is refused with the number that its first bytes call for; so a program may read a part of it and stop.
+-- Assumes nothing.
+use Prim.Native.Nat.{ℕ, _+_, _*_, _≤_, _<_}
+use native.Mathlib.Omega.{arith}
+use mathlib.Core.Path.{_≡_, refl, sym, ap, ap₂, _∙_}
+use mathlib.Core.Bool.{Bool, true, false, not, cond, _||_}
+use mathlib.Core.List.{List}
+use borrow.Author.Tests.{le-ltb, ltb-false, ne-eqb}
+use lib.Dec.{T, eqb, ltb, eqb→eq, nltb→le}
+use lib.ListN.{length, take}
+use lib.Seq.{getD-take, length-take-le}
+use Rattle.model.specs.Log.{pairAt, transactionsIn, operationsIn, loadNumber, historyOf, orElse, firstNumber, entryNumber, bodiesNumber, countsBefore}
+use Rattle.model.specs.Polygraph.{constraints}
+use Rattle.model.specs.Search.{firstLegal}
+use Rattle.model.proofs.Basics.{eqb-ne}
+use Rattle.report.specs.Text.{refusedText}
+use Rattle.report.specs.Judge.{decidedText, judgeNumber, judgeText}
+
+-- T over 32 or N over 256, by the first four bytes
+abbrev pub tooMany : List ℕ → Bool
+tooMany b = ltb 32 (transactionsIn b) || ltb 256 (operationsIn b)
+
+few : (t n : ℕ) → (ltb 32 t || ltb 256 n) ≡ false → (t ≤ 32) × (n ≤ 256)
+few t n e = go (ltb 32 t) (ltb 256 n) refl refl e
+  where
+    go : (p q : Bool) → ltb 32 t ≡ p → ltb 256 n ≡ q → (p || q) ≡ false → (t ≤ 32) × (n ≤ 256)
+    go true q u v e = omega (arith, ap {B = ℕ} (λ (b : Bool). cond b 1 0) e)
+    go false true u v e = omega (arith, ap {B = ℕ} (λ (b : Bool). cond b 1 0) e)
+    go false false u v e = (omega (arith, ltb-false), omega (arith, ltb-false))
+
+-- the rest of the tests, where the length is right
+rest : List ℕ → ℕ
+rest b =
+    orElse (firstNumber (entryNumber b) (transactionsIn b))
+    (cond (eqb (countsBefore b (transactionsIn b)) (operationsIn b)) (firstNumber (bodiesNumber b) (transactionsIn b)) 6)
+
+pub long-number : (b : List ℕ) → 1156 < length b → loadNumber b ≡ cond (tooMany b) 2 3
+unfolding loadNumber rest
+long-number b l =
+    ap (λ c. cond c 1 (cond (tooMany b) 2 (cond (eqb (length b) (4 + 4 * transactionsIn b + 4 * operationsIn b)) (rest b) 3))) (le-ltb (length b) 4 (omega arith))
+    ∙ go (tooMany b) refl
+  where
+    go : (c : Bool) → tooMany b ≡ c → cond c 2 (cond (eqb (length b) (4 + 4 * transactionsIn b + 4 * operationsIn b)) (rest b) 3) ≡ cond c 2 3
+    go true e = refl
+    go false e =
+        let f = few (transactionsIn b) (operationsIn b) e in
+        ap (λ c. cond c (rest b) 3) (ne-eqb (length b) (4 + 4 * transactionsIn b + 4 * operationsIn b) (λ q. omega arith))
+
+-- ---- the first bytes are enough
+
+pair-take : (b : List ℕ) (n i : ℕ) → i + 1 < n → pairAt (take n b) i ≡ pairAt b i
+unfolding pairAt
+pair-take b n i l =
+    ap₂ {C = ℕ} (λ x y. x + 256 * y) (getD-take n b i 0 (omega arith)) (getD-take n b (i + 1) 0 l)
+
+pub long-prefix : (b : List ℕ) (n : ℕ) → 1156 < n → n ≤ length b → loadNumber (take n b) ≡ loadNumber b
+long-prefix b n l h =
+    let t : transactionsIn (take n b) ≡ transactionsIn b = pair-take b n 0 (omega arith) in
+    let o : operationsIn (take n b) ≡ operationsIn b = pair-take b n 2 (omega arith) in
+    long-number (take n b) (omega (arith, length-take-le n b h))
+    ∙ ap₂ {C = ℕ} (λ x y. cond (ltb 32 x || ltb 256 y) 2 3) t o
+    ∙ sym (long-number b (omega arith))
+
+-- Load's number is Judge's, where it is not 0
+pub number-load : (b : List ℕ) (n : ℕ) → loadNumber b ≡ n → (n ≡ 0 → ⊥) → judgeNumber b ≡ n
+unfolding judgeNumber
+number-load b n e f =
+    ap₂ {C = ℕ} (λ t m. cond t (cond (ltb 4096 (length (constraints (historyOf b) 2))) 14 0) m) (ap (λ m. eqb m 0) e ∙ ne-eqb n 0 f) e
+
+-- where Judge refuses nothing, Load takes the log, and it has at most 4,096 constraints
+pub number-zero : (b : List ℕ) → judgeNumber b ≡ 0 → (loadNumber b ≡ 0) × (length (constraints (historyOf b) 2) ≤ 4096)
+unfolding judgeNumber
+number-zero b =
+    go (eqb (loadNumber b) 0) (ltb 4096 n) (λ t. eqb→eq (loadNumber b) 0 t) (λ t z. eqb-ne t z) (λ t. nltb→le 4096 n t)
+  where
+    n : ℕ
+    n = length (constraints (historyOf b) 2)
+
+    go : (t m : Bool) → (T t → loadNumber b ≡ 0) → (T (not t) → loadNumber b ≡ 0 → ⊥) → (T (not m) → n ≤ 4096)
+        → _≡_ {A = ℕ} (cond t (cond m 14 0) (loadNumber b)) 0 → (loadNumber b ≡ 0) × (n ≤ 4096)
+    go true true f g h z = absurd (omega arith)
+    go true false f g h z = (f tt, h tt)
+    go false m f g h z = absurd (g tt z)
+
+-- by the two tests
+pub number-many : (b : List ℕ) (m : Bool) → loadNumber b ≡ 0 → m ≡ ltb 4096 (length (constraints (historyOf b) 2)) → _≡_ {A = ℕ} (cond m 14 0) (judgeNumber b)
+unfolding judgeNumber
+number-many b m z e =
+    ap {B = ℕ} (λ x. cond x 14 0) e
+    ∙ sym (ap₂ {C = ℕ} (λ t k. cond t (cond (ltb 4096 (length (constraints (historyOf b) 2))) 14 0) k) (ap (λ k. eqb k 0) z) z)
+
+-- 'refused' and the number, where it is not 0, is all that Judge prints
+pub refused-only : (b : List ℕ) (n : ℕ) → judgeNumber b ≡ n → (n ≡ 0 → ⊥) → judgeText b ≡ refusedText n
+unfolding judgeText
+refused-only b n e f =
+    ap₂ (λ t m. cond t (decidedText (historyOf b) (firstLegal (historyOf b))) (refusedText m)) (ap (λ m. eqb m 0) e ∙ ne-eqb n 0 f) e
+
+pub judge-prefix : (b : List ℕ) (n : ℕ) → 1156 < n → n ≤ length b → judgeText (take n b) ≡ judgeText b
+judge-prefix b n l h =
+    let e = long-number b (omega arith) in
+    let some : loadNumber b ≡ 0 → ⊥ = λ z. not-zero (tooMany b) (sym e ∙ z) in
+    refused-only (take n b) (loadNumber b) (number-load (take n b) (loadNumber b) (long-prefix b n l h) some) some
+    ∙ sym (refused-only b (loadNumber b) (number-load b (loadNumber b) refl some) some)
+  where
+    not-zero : (c : Bool) → _≡_ {A = ℕ} (cond c 2 3) 0 → ⊥
+    not-zero true e = omega arith
+    not-zero false e = omega arith

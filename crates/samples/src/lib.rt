@@ -1,0 +1,186 @@
+// What the test programs share: a full log to change bytes of, calls with their answers as numbers, and lines of output.
+use checker::Case;
+use checker::Judgement;
+use checker::Reply;
+use checker::Stage;
+
+pub mod lines;
+
+// A byte of a list, or 0 past its end.
+pub fn at(s: &[u8], i: usize) -> u8 {
+    if i < s.len() { s[i] } else { 0 }
+}
+
+// A case with nothing in it.
+pub fn fresh() -> Case {
+    Case {
+        stage: Stage::Fresh,
+        bytes: [0; 1156],
+        length: 0,
+        order: [0; 32],
+    }
+}
+
+// Byte f of an entry: cabinet t % 16, 8 operations, start 8 * t.
+fn entry_byte(t: usize, f: usize) -> u8 {
+    match f {
+        0 => (t % 16) as u8,
+        1 => 8,
+        2 => (t % 32 * 8) as u8,
+        _ => 0,
+    }
+}
+
+// Byte f of body m: the bodies of a transaction read and write keys 0, 1, 2 and 31 in turn. The reads are at start, the writes' values below 32.
+fn body_byte(m: usize, f: usize) -> u8 {
+    let j = m % 8;
+    match f {
+        0 => (j % 2) as u8,
+        1 => if j < 6 { (j / 2) as u8 } else { 31 },
+        2 => if j % 2 == 0 { 255 } else { (m % 32) as u8 },
+        _ => if j % 2 == 0 { 255 } else { 0 },
+    }
+}
+
+// Byte i of the full log: 32 transactions and 256 operations.
+fn full_byte(i: usize) -> u8 {
+    if i < 4 {
+        return match i {
+            0 => 32,
+            3 => 1,
+            _ => 0,
+        };
+    }
+    if i < 132 {
+        entry_byte((i - 4) / 4, i % 4)
+    } else {
+        body_byte((i - 132) / 4, i % 4)
+    }
+}
+
+// The full log.
+pub fn full() -> [u8; 1156] {
+    let mut out = [0u8; 1156];
+    let mut i: usize = 0;
+    while i < 1156 {
+        out[i] = full_byte(i);
+        i += 1;
+    }
+    out
+}
+
+// The numbers 0, 1, 2 and on.
+pub fn ascending() -> [u8; 1156] {
+    let mut out = [0u8; 1156];
+    let mut i: usize = 0;
+    while i < 1156 {
+        out[i] = (i % 256) as u8;
+        i += 1;
+    }
+    out
+}
+
+// The list with x at place i.
+pub fn with_byte(log: [u8; 1156], i: usize, x: u8) -> [u8; 1156] {
+    if i >= 1156 {
+        return log;
+    }
+    let mut out = log;
+    out[i] = x;
+    out
+}
+
+// The number of a reply.
+pub fn reply_number(r: Reply) -> u64 {
+    match r {
+        Reply::Taken => 0,
+        Reply::Refused(n) => n as u64,
+    }
+}
+
+// The number that Load gives.
+pub fn load_number(c: Case, log: &[u8]) -> u64 {
+    let a = c.load(log);
+    let r = a.reply;
+    reply_number(r)
+}
+
+// The same of the first n bytes.
+pub fn load_first(c: Case, log: [u8; 1156], n: usize) -> u64 {
+    if n > 1156 {
+        return 1000;
+    }
+    load_number(c, &log[..n])
+}
+
+// The number that Load gives of the full log with x at place i and y at place j.
+pub fn changed_number(i: usize, x: u8, j: usize, y: u8) -> u64 {
+    load_first(fresh(), with_byte(with_byte(full(), i, x), j, y), 1156)
+}
+
+// The case that holds a log.
+pub fn loaded(log: &[u8]) -> Case {
+    let a = fresh().load(log);
+    a.case
+}
+
+// The case that holds the full log.
+pub fn loaded_full() -> Case {
+    let log = full();
+    loaded(&log)
+}
+
+// What Check says: 100 legal, 101 not legal, or the number of a refusal.
+pub fn check_number(c: Case, order: &[u8]) -> u64 {
+    let a = c.check(order);
+    let j = a.judgement;
+    match j {
+        Judgement::Legal => 100,
+        Judgement::Illegal => 101,
+        Judgement::Refused(n) => n as u64,
+    }
+}
+
+// The same of the first n numbers.
+pub fn check_first(c: Case, order: [u8; 1156], n: usize) -> u64 {
+    if n > 1156 {
+        return 1000;
+    }
+    check_number(c, &order[..n])
+}
+
+// The case after Check.
+pub fn after_check(c: Case, order: [u8; 1156]) -> Case {
+    let a = c.check(&order);
+    a.case
+}
+
+// A stage as a number.
+fn stage_number(s: Stage) -> u8 {
+    match s {
+        Stage::Fresh => 0,
+        Stage::Loaded => 1,
+        Stage::Ordered => 2,
+        Stage::NoOrder => 3,
+    }
+}
+
+// Whether two cases are the same, field by field.
+pub fn same_case(a: Case, b: Case) -> bool {
+    let s = a.stage;
+    let t = b.stage;
+    if stage_number(s) != stage_number(t) {
+        return false;
+    }
+    if a.length != b.length {
+        return false;
+    }
+    let x = a.bytes;
+    let y = b.bytes;
+    if !check::same(&x, &y) {
+        return false;
+    }
+    let o = a.order;
+    let p = b.order;
+    check::same(&o, &p)
+}

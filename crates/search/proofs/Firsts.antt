@@ -1,0 +1,115 @@
+-- The whole: the first solution of row words and constraints, from the closed words, the pruned ones and a walk. Assumes nothing.
+use Prim.Native.Nat.{ℕ, _<_}
+use native.Mathlib.Omega.{arith}
+use mathlib.Core.Path.{_≡_, sym, subst}
+use mathlib.Core.Logic.{⊎-elim}
+use mathlib.Core.Bool.{Bool, true, false, not}
+use mathlib.Core.List.{List}
+use lib.Dec.{T, ltb, ltb→lt, lt→ltb}
+use lib.ListN.{take, replicate}
+use Rattle.model.specs.Lists.{bit}
+use Rattle.model.specs.Polygraph.{reach, RespectsKnown}
+use Rattle.model.specs.RowWords.{Tidy, Within, cyclic, held}
+use Rattle.model.proofs.Basics.{clash, decide, eq-T}
+use Rattle.model.proofs.Reach.{within-tidy, reach-way, reach-old}
+use Rattle.model.proofs.Pruning.{way-forward}
+use Rattle.model.proofs.Sides.{cyclic-in}
+use Rattle.graph.proofs.Rows.{reach-idem}
+use Rattle.search.specs.Constraints.{conAt, isOpen}
+use Rattle.search.specs.Steps.{PartialOrder, Ready, Pruned, Narrowed, Walked, Hopeless}
+use Rattle.search.specs.Orders.{First, Answered, Asked, Begins}
+use Rattle.search.proofs.Steps.{closed-tidy, no-true, is-true, is-false, way-within, held-more}
+
+module _ (t : ℕ) (w : List ℕ) (n : ℕ) (g : List ℕ) (a : Asked t w n g) (c : List ℕ) (e : c ≡ reach g) where
+  tidy-g : Tidy g
+  tidy-g = within-tidy g t (a .few) (a .within)
+
+  is-closed : reach c ≡ c
+  is-closed = subst (λ (x : List ℕ). reach x ≡ x) (sym e) (reach-idem g tidy-g)
+
+  into : (o : List ℕ) → RespectsKnown o g → RespectsKnown o c
+  into o r = subst (RespectsKnown o) (sym e) (λ u v hu hv x. way-forward o g tidy-g r u v (reach-way g u v x))
+
+  back : (o : List ℕ) → RespectsKnown o c → RespectsKnown o g
+  back o r u v hu hv x = subst (RespectsKnown o) e r u v hu hv (reach-old g u v hu hv x)
+
+  -- no order respects all
+  nothing : Hopeless w n c → (out : List ℕ) → out ≡ replicate 32 0 → Answered t w n g false out
+  nothing h out z = record { some = λ q. no-true q; none = λ q o k. h o (into o (k .known)) (k .keeps); zeros = λ q. z }
+
+  module _ (r : Bool) (f : (h : List ℕ) → c ≡ reach h → r ≡ cyclic h) where
+    pub first-cyclic : r ≡ true → (out : List ℕ) → out ≡ replicate 32 0 → Answered t w n g false out
+    first-cyclic q out z =
+        nothing
+        (λ o k y.
+        clash (cyclic c) (is-true r (cyclic c) (f c (sym is-closed)) q)
+        (cyclic-in c (λ u x. let z = way-forward o c (closed-tidy c is-closed) k u u x in omega arith)))
+        out z
+
+    module _ (q : r ≡ false) where
+      partial : PartialOrder c
+      partial = record { closed = is-closed; acyclic = is-false r (cyclic c) (f c (sym is-closed)) q }
+
+      module _ (l : List ℕ) (all : (i : ℕ) → isOpen l i ≡ ltb i n) where
+        pub first-ready : Ready w n c l
+        first-ready = record { given = a .given; partial = partial; fit = λ i x. ltb→lt i n (eq-T (all i) x) }
+
+        module _ (stuck : Bool) (d m : List ℕ) (p : Pruned w n c l stuck d m) where
+          pub first-stuck : stuck ≡ true → (out : List ℕ) → out ≡ replicate 32 0 → Answered t w n g false out
+          first-stuck s out z = nothing (p .hopeless s) out z
+
+          module _ (s : stuck ≡ false) where
+            narrow : Narrowed w n c l d m
+            narrow = p .narrowed s
+
+            pub pruned-ready : Ready w n d m
+            pruned-ready =
+                record { given = a .given; partial = narrow .grown .partial; fit = λ i x. first-ready .fit i (narrow .fewer i x) }
+
+            settled : (i : ℕ) → i < n → T (not (isOpen m i)) → T (held d (conAt w i))
+            settled i h x = narrow .settled i (eq-T (sym (all i)) (lt→ltb i n h)) x
+
+            wi : Within d t
+            wi =
+                narrow .grown .within t (subst (λ (x : List ℕ). Within x t) (sym e) (λ u v x. way-within g t (a .within) u v (reach-way g u v x))) (a .aimed)
+
+            module _ (found : Bool) (sel : List ℕ) (x : Walked w n d m found sel) where
+              pub first-none : found ≡ false → (out : List ℕ) → out ≡ replicate 32 0 → Answered t w n g false out
+              first-none y out z = nothing (λ o k h. x .none y o (narrow .grown .keeps o k h) h) out z
+
+              pub first-begins : found ≡ true → (set : ℕ) → ((y : ℕ) → bit set y ≡ ltb y t) → Begins t w n d m sel set
+              first-begins y set k =
+                  let z = x .some y in
+                  record {
+                    stage =
+                        record {
+                          few = a .few;
+                          aimed = a .aimed;
+                          ready = pruned-ready;
+                          settled = settled;
+                          within = wi;
+                          witness =
+                              record {
+                                partial = z .partial;
+                                within = z .within t wi (a .aimed);
+                                back = λ o r u v hu hv b. r u v hu hv (z .more u v b);
+                                held = λ i h. ⊎-elim (λ b. z .held i b) (λ b. held-more d sel (conAt w i) (z .more) (settled i h b)) (decide (isOpen m i));
+                              };
+                        };
+                    inside = λ v h. ltb→lt v t (eq-T (k v) h);
+                    whole = λ v h. eq-T (sym (k v)) (lt→ltb v t h);
+                  }
+
+              pub first-some : (out : List ℕ) → First t w n d out → Answered t w n g true out
+              first-some out k =
+                  record {
+                    some = λ y.
+                        record {
+                          long = k .long;
+                          solves = record { order = k .solves .order; known = back (take t out) (λ u v hu hv b. k .solves .known u v hu hv (narrow .grown .more u v b)); keeps = k .solves .keeps };
+                          lowest = λ o y. k .lowest o (record { order = y .order; known = narrow .grown .keeps o (into o (y .known)) (y .keeps); keeps = y .keeps });
+                          zeros = k .zeros;
+                        };
+                    none = λ y. no-true (sym y);
+                    zeros = λ y. no-true (sym y);
+                  }

@@ -1,0 +1,11 @@
+pub mod Words
+pub mod Steps
+pub mod Exact
+pub mod Opens
+pub mod Pairs
+pub mod Walks
+pub mod Leads
+pub mod Picks
+pub mod Fills
+pub mod Firsts
+pub mod Answer
