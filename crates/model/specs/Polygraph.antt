@@ -11,44 +11,45 @@ pub use Rattle.model.specs.declared.Constraint.{Constraint}
 use Rattle.model.specs.Lists.{All, all, any, place, keep, firstOr, fold, each, upTo, bit, wordOf}
 use Rattle.model.specs.History.{History, Operation, start, size, cabinetOf, operationsOf, outward, mustPrecede, writes, reads}
 
--- a read by t that names u, where u writes the key and u is not t
+-- a good read: a read by t that names u, where u writes the key and u is not t. It gives the known edge u → t.
 unfoldable pub goodRead : History → ℕ → ℕ → ℕ → Bool
 goodRead h k t u = reads h t k u && (writes h u k && not (eqb u t))
 
--- v is the next transaction of u's cabinet
+-- v is the next transaction of u's cabinet. There is a known edge from each transaction to the next of the same cabinet.
 unfoldable pub nextOfCabinet : History → ℕ → ℕ → Bool
 nextOfCabinet h u v =
     mustPrecede h u v
     && all (λ w. not (ltb u w && (ltb w v && eqb (cabinetOf h u) (cabinetOf h w)))) (upTo (size h))
 
--- a read by t of a starting value that v, another transaction, writes
+-- A read by t of the starting value gives t → v for every other writer v of the key.
 unfoldable pub startRead : History → ℕ → ℕ → Bool
 startRead h t v = any (λ k. reads h t k start && (writes h v k && not (eqb v t))) (upTo 32)
 
--- t has a read that names its own transaction, or one that doesn't write the key
+-- A read that names its own transaction, or one that doesn't write the key, gives t → t.
 unfoldable pub badRead : History → ℕ → Bool
 badRead h t = any (λ r. outward r && (not (eqb (r .argument) start) && not (goodRead h (r .key) t (r .argument)))) (operationsOf h t)
 
--- the successor of the write u on key k: the lowest other transaction that writes k and has a good read of it from u; T where there is none
+-- the successor of a write u on key k: the lowest-numbered transaction other than u that writes the key and has a good read of it from u; T
+-- where there is none
 unfoldable pub successor : History → ℕ → ℕ → ℕ
 successor h k u = firstOr (size h) (λ v. not (eqb v u) && (writes h v k && goodRead h k v u)) (upTo (size h))
 
--- a reader t of some write, whose successor v is another than t
+-- Further known edges of encoding 2: a reader t of u, where u has a successor v other than t, gives t → v.
 unfoldable pub chainEdge : History → ℕ → ℕ → Bool
 chainEdge h t v = any (λ k. any (λ u. goodRead h k t u && (eqb (successor h k u) v && not (eqb v t))) (upTo (size h))) (upTo 32)
 
--- the known edge u → v in encoding e
+-- the known edge u → v in encoding e, which means u before v: the four kinds of every encoding, and the further ones of encoding 2
 unfoldable pub edge : History → ℕ → ℕ → ℕ → Bool
 edge h e u v =
     ltb u (size h) && (ltb v (size h)
     && (nextOfCabinet h u v || (any (λ k. goodRead h k v u) (upTo 32) || (startRead h u v || ((eqb u v && badRead h u)
     || (eqb e 2 && chainEdge h u v))))))
 
--- the 32 row words: bit v of word u
+-- The known edges as 32 row words: bit v of word u stands for u → v, and unused bits are 0.
 unfoldable pub rows : History → ℕ → List ℕ
 rows h e = map (λ u. wordOf 32 (edge h e u)) (upTo 32)
 
--- Ends(w, x): the good readers of w without x or, where there are none, w alone
+-- Ends(w, x): Readers(w), which are the transactions with a good read of the key from w, without x or, where that is empty, w alone
 unfoldable pub inEnds : History → ℕ → ℕ → ℕ → ℕ → Bool
 inEnds h k w x s =
     cond (any (λ r. goodRead h k r w && not (eqb r x)) (upTo (size h))) (goodRead h k s w && not (eqb s x)) (eqb s w)
@@ -60,7 +61,8 @@ ends h k w x = wordOf 32 (inEnds h k w x)
 abbrev pub only : ℕ → ℕ
 only t = wordOf 32 (λ s. eqb s t)
 
--- encoding 0: for every good read by t from u, and every writer v of that key other than u and t: A is t → v, B is v → u
+-- Encoding 0, plain: for every good read by t from u, and every writer v of that key other than u and t: A is t → v, B is v → u. Listed by t, then
+-- body order, then v; every listing is ascending.
 unfoldable pub plainOf : History → ℕ → Operation → List Constraint
 plainOf h t r =
     cond (outward r && goodRead h (r .key) t (r .argument))
@@ -72,7 +74,7 @@ unfoldable pub plain : History → List Constraint
 plain h = each (λ t. each (plainOf h t) (operationsOf h t)) (upTo (size h))
 
 -- for each two i < j of those that the test passes, each standing for a run of writes that ends in `last`:
--- A is Ends(last i, j) to j, B is Ends(last j, i) to i
+-- A is Ends(last i, j) to j, B is Ends(last j, i) to i. Listed by i, then j.
 unfoldable pub between : History → ℕ → (ℕ → Bool) → (ℕ → ℕ) → List Constraint
 between h k first last =
     each
@@ -80,11 +82,12 @@ between h k first last =
     (keep (λ j. ltb i j && first j) (upTo (size h))))
     (keep first (upTo (size h)))
 
--- encoding 1: for each key and each two writers
+-- Encoding 1, joined: for each key and each two writers i < j of it: A is Ends(i, j) to j, B is Ends(j, i) to i. Listed by key, then i, then j.
 unfoldable pub joined : History → List Constraint
 joined h = each (λ k. between h k (λ w. writes h w k) (λ w. w)) (upTo 32)
 
--- Links from a write to its successor make chains: one or more links on key k, from u to v.
+-- Links from u to its successor make chains, each from a head to a tail; links in a ring have no head and give no chain. This is one or more links
+-- on key k, from u to v.
 pub data Linked (h : History) (k : ℕ) : ℕ → ℕ → Type 0 where
   link : {u v : ℕ} → successor h k u ≡ v → v < size h → Linked h k u v
   more : {u v w : ℕ} → Linked h k u v → successor h k v ≡ w → w < size h → Linked h k u w
@@ -93,11 +96,11 @@ pub data Linked (h : History) (k : ℕ) : ℕ → ℕ → Type 0 where
 unfoldable pub isSuccessor : History → ℕ → ℕ → Bool
 isSuccessor h k v = any (λ u. writes h u k && eqb (successor h k u) v) (upTo (size h))
 
--- a head: a write that is nobody's successor
+-- the head of a chain: a write that is nobody's successor
 unfoldable pub isHead : History → ℕ → ℕ → Bool
 isHead h k g = writes h g k && not (isSuccessor h k g)
 
--- the tail: follow the successors, which at most T steps do
+-- the tail of a chain: the write without successor that its links lead to, in at most T steps
 unfoldable pub tailWithin : History → ℕ → ℕ → ℕ → ℕ
 tailWithin h k zero u = u
 tailWithin h k (suc n) u = let r = tailWithin h k n (successor h k u) in cond (ltb (successor h k u) (size h)) r u
@@ -105,7 +108,8 @@ tailWithin h k (suc n) u = let r = tailWithin h k n (successor h k u) in cond (l
 abbrev pub tail : History → ℕ → ℕ → ℕ
 tail h k u = tailWithin h k (size h) u
 
--- encoding 2: for each key and each two chains
+-- Encoding 2, chained: for each key and two chains with heads g < h and tails p, q: A is Ends(p, h) to h, B is Ends(q, g) to g, also where nobody
+-- read a tail. Listed by key, then g, then h.
 unfoldable pub chained : History → List Constraint
 chained h = each (λ k. between h k (isHead h k) (tail h k)) (upTo 32)
 
@@ -138,11 +142,11 @@ through g m = map (λ u. wordOf 32 (λ v. has g u v || (has g u m && has g m v))
 unfoldable pub reach : List ℕ → List ℕ
 reach g = fold through g (upTo 32)
 
--- some source is the target or is reached from it
+-- A side is closed off when, by the known edges so far, some source is its target or is reached from it.
 unfoldable pub closedOff : List ℕ → ℕ → ℕ → Bool
 closedOff g from to = any (λ s. bit from s && (eqb s to || has (reach g) to s)) (upTo 32)
 
--- one pass: a constraint with a side closed off is dropped and the other side's edges are added
+-- One pass goes through the list in order: if A is closed off, B's edges are added and the constraint is dropped; otherwise, if B is, A's are.
 unfoldable pub pass : List ℕ → List Constraint → Polygraph
 pass g [] = record { known = g; choices = [] }
 pass g (c ∷ cs) =
@@ -153,7 +157,7 @@ pass g (c ∷ cs) =
     let notA = cond (closedOff g (c .fromB) (c .toB)) dropB stays in
     cond (closedOff g (c .fromA) (c .toA)) dropA notA
 
--- passes until one drops none, at most n
+-- Passes are repeated until one drops none, at most n.
 unfoldable pub passes : ℕ → Polygraph → Polygraph
 passes zero p = p
 passes (suc n) p =
@@ -164,7 +168,8 @@ passes (suc n) p =
 abbrev pub unpruned : History → ℕ → Polygraph
 unpruned h e = record { known = rows h e; choices = constraints h e }
 
--- the polygraph of a history in a setting: encoding e, pruning 0 or 1
+-- The polygraph of a history in one of the six settings, encoding 0 to 2 and pruning 0 or 1: its known edges and its list of constraints in that
+-- encoding; with pruning 1, both as pruning leaves them.
 unfoldable pub polygraph : History → ℕ → ℕ → Polygraph
 polygraph h e pruning =
     let q = passes (length (constraints h e)) (unpruned h e) in

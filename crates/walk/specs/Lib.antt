@@ -4,6 +4,7 @@ pub mod ByValue
 pub mod Kind
 pub mod Lending
 pub mod Locals
+pub mod Parts
 pub mod Prelude
 pub mod Sharing
 pub mod Slices

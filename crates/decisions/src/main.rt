@@ -1,0 +1,326 @@
+// Decide, Order and Table of many small random histories, in the six settings, against a search through all permutations and a direct replay: up to 6
+// transactions over 1 to 3 keys, with good, bad and starting reads, shared cabinets, blind writes, read-modify-write chains and rings.
+use checker::Case;
+use checker::Decision;
+use checker::Stage;
+use checker::Verdict;
+use direct::Polygraph;
+use model::Constraint;
+use results::Expected;
+use samples::fresh;
+use samples::lines::end;
+use samples::lines::number;
+use samples::lines::text;
+use samples::lines::yes_no;
+use samples::loaded;
+use samples::same_case;
+
+mod results;
+
+// How many histories there are of each kind.
+const COUNT: u64 = 1000;
+
+// The histories with an order and without; decisions, each with Order and Table of its case; refusals of Order and Table; decisions on a list that
+// another was made on.
+pub struct Tally {
+    pub orders: u64,
+    pub without: u64,
+    pub decided: u64,
+    pub different: u64,
+    pub refused: u64,
+    pub otherwise: u64,
+    pub again: u64,
+    pub changed: u64,
+}
+
+// What stands in each place of a lent list.
+fn marked(x: u32) -> Constraint {
+    Constraint {
+        fromA: x,
+        toA: x,
+        fromB: x,
+        toB: x,
+    }
+}
+
+// ---- what is expected
+
+// The order that is found among all, as Decide gives it: 0 from place T on, or 32 zeros where there is none.
+fn shown(found: bool, order: [u8; 32], size: usize) -> [u8; 32] {
+    let mut out = [0u8; 32];
+    for i in 0..32usize {
+        if found && i < size {
+            out[i] = order[i];
+        }
+    }
+    out
+}
+
+fn expected(s: trial::Sample, log: &[u8]) -> Expected {
+    let first = trial::orders::first(s);
+    let found = first.found;
+    let size = s.size as usize;
+    let theirs = first.order;
+    let order = shown(found, theirs, size);
+    Expected {
+        found,
+        size,
+        order,
+        table: direct::tables::table(log, order, size),
+    }
+}
+
+// The case with the answer stored in it.
+fn stored(c: Case, x: Expected) -> Case {
+    let bytes = c.bytes;
+    let length = c.length;
+    let order = x.order;
+    if x.found {
+        return Case {
+            stage: Stage::Ordered,
+            bytes,
+            length,
+            order,
+        };
+    }
+    Case {
+        stage: Stage::NoOrder,
+        bytes,
+        length,
+        order,
+    }
+}
+
+// ---- decisions
+
+// 100 an order, 101 none, or the number of a refusal.
+fn verdict_number(v: Verdict) -> u8 {
+    match v {
+        Verdict::Order => 100,
+        Verdict::Without => 101,
+        Verdict::Refused(n) => n,
+    }
+}
+
+// Whether a decision of the case is the one that is expected, with so many constraints left.
+fn agrees(d: Decision, c: Case, x: Expected, left: usize) -> bool {
+    let v = d.verdict;
+    let after = d.case;
+    let order = d.order;
+    let wanted = x.order;
+    let number = if x.found { 100 } else { 101 };
+    verdict_number(v) == number
+        && check::same(&order, &wanted)
+        && d.left == left
+        && same_case(after, stored(c, x))
+}
+
+// Whether a decision is a refusal with the number, and gives the case as it was, 32 zeros and no count.
+fn refuses(d: Decision, c: Case, expected: u8) -> bool {
+    let v = d.verdict;
+    let after = d.case;
+    let order = d.order;
+    let zeros = [0u8; 32];
+    verdict_number(v) == expected
+        && check::same(&order, &zeros)
+        && d.left == 0
+        && same_case(after, c)
+}
+
+// Whether Decide gives the same again of a decided case, with a list of exactly so many places, and refuses one that is shorter.
+fn repeats(decided: Case, x: Expected, encoding: u8, pruning: u8, p: Polygraph) -> bool {
+    let count = p.count;
+    if count > 4096 {
+        return false;
+    }
+    let again = lender::decide(decided, encoding, pruning, count, marked(6));
+    if !agrees(again, decided, x, p.left) {
+        return false;
+    }
+    if count == 0 {
+        return true;
+    }
+    let short = lender::decide(decided, encoding, pruning, count - 1, marked(7));
+    refuses(short, decided, 25)
+}
+
+// Whether Decide gives what is expected of a loaded case, and Order and Table of the case that is decided then.
+fn setting_agrees(c: Case, log: &[u8], x: Expected, encoding: u8, pruning: u8) -> bool {
+    let mut list = [0u32; 16384];
+    let p = direct::encoded(log, encoding, pruning, &mut list);
+    let d = lender::decide(c, encoding, pruning, 4096, marked(5));
+    if !agrees(d, c, x, p.left) {
+        return false;
+    }
+    let decided = d.case;
+    repeats(decided, x, encoding, pruning, p) && results::agree(decided, x)
+}
+
+// Whether all words are the same.
+fn same_words(a: &[u32; 16384], b: &[u32; 16384]) -> bool {
+    for i in 0..16384usize {
+        if a[i] != b[i] {
+            return false;
+        }
+    }
+    true
+}
+
+// Decide on a list that another log's constraints were written to, each in a setting: whether it is as if it were alone, and the list holds what the
+// two calls write one after the other.
+fn again_agrees(first: &[u8], s: u8, second: &[u8], r: u8, x: Expected) -> bool {
+    let mut list = [77u32; 16384];
+    let one = direct::encoded(first, s / 2 % 3, s % 2, &mut list);
+    let two = direct::encoded(second, r / 2 % 3, r % 2, &mut list);
+    let c = loaded(second);
+    let mut out = [0u32; 16384];
+    let d = lender::decide_again(
+        loaded(first),
+        s / 2 % 3,
+        s % 2,
+        c,
+        r / 2 % 3,
+        r % 2,
+        4096,
+        marked(77),
+        &mut out,
+    );
+    agrees(d, c, x, two.left) && same_words(&out, &list)
+}
+
+// ---- the histories
+
+fn more(n: u64, yes: bool) -> u64 {
+    if yes { n % 1000000 + 1 } else { n }
+}
+
+// The six settings of a log.
+fn with_settings(t: Tally, log: &[u8], x: Expected) -> Tally {
+    let mut out = t;
+    let c = loaded(log);
+    for s in 0..6u8 {
+        let yes = setting_agrees(c, log, x, s / 2, s % 2);
+        let next = with_decision(out, yes);
+        out = next;
+    }
+    out
+}
+
+fn with_decision(t: Tally, yes: bool) -> Tally {
+    let mut out = t;
+    out.decided = more(t.decided, true);
+    out.different = more(t.different, !yes);
+    out
+}
+
+// Order and Table where the state or a list is not as it must be.
+fn with_refusals(t: Tally, log: &[u8], x: Expected) -> Tally {
+    let c = loaded(log);
+    let early = results::refuse(c, x, 23) && results::refuse(fresh(), x, 23);
+    let late = results::refuse_decided(stored(c, x), x);
+    let mut out = t;
+    out.refused = more(t.refused, early && late);
+    out.otherwise = more(t.otherwise, !early || !late);
+    out
+}
+
+// A log after another, which is the first `length` bytes.
+fn with_again(
+    t: Tally,
+    bytes: &[u8],
+    length: usize,
+    second: &[u8],
+    x: Expected,
+    seed: u64,
+) -> Tally {
+    if length > bytes.len() {
+        return t;
+    }
+    let s = (seed % 6) as u8;
+    let r = (seed / 6 % 6) as u8;
+    let yes = again_agrees(&bytes[0..length], s, second, r, x);
+    let mut out = t;
+    out.again = more(t.again, true);
+    out.changed = more(t.changed, !yes);
+    out
+}
+
+// A log, which is the first `length` bytes, of a sample.
+fn with_log(t: Tally, bytes: &[u8], length: usize, s: trial::Sample, kind: u8, seed: u64) -> Tally {
+    if length > bytes.len() {
+        return t;
+    }
+    let log = &bytes[0..length];
+    let x = expected(s, log);
+    let mut out = with_settings(t, log, x);
+    out.orders = more(t.orders, x.found);
+    out.without = more(t.without, !x.found);
+    let refused = with_refusals(out, log, x);
+    let other = trial::log::of(trial::small(kind, seed % 1000000 + 1000000));
+    let before = other.bytes;
+    with_again(refused, &before, other.length, log, x, seed)
+}
+
+// The histories of a kind.
+fn row(kind: u8) -> Tally {
+    let mut t = Tally {
+        orders: 0,
+        without: 0,
+        decided: 0,
+        different: 0,
+        refused: 0,
+        otherwise: 0,
+        again: 0,
+        changed: 0,
+    };
+    for seed in 0..COUNT {
+        let s = trial::small(kind, seed);
+        let l = trial::log::of(s);
+        let bytes = l.bytes;
+        let next = with_log(t, &bytes, l.length, s, kind, seed);
+        t = next;
+    }
+    t
+}
+
+fn print(name: &[u8], kind: u8) {
+    let t = row(kind);
+    text(name);
+    text(b": order");
+    number(t.orders);
+    text(b", no order");
+    number(t.without);
+    text(b"; decided");
+    number(t.decided);
+    text(b", different");
+    number(t.different);
+    text(b"; too early, too late, too short: refused as it must be");
+    number(t.refused);
+    text(b", otherwise");
+    number(t.otherwise);
+    text(b"; after another on one list");
+    number(t.again);
+    text(b", different");
+    number(t.changed);
+    end();
+}
+
+// Whether Decide refuses a setting out of range, and any setting of a fresh case, also with no places.
+fn settings_refused(c: Case) -> bool {
+    refuses(lender::decide(c, 3, 0, 4096, marked(1)), c, 12)
+        && refuses(lender::decide(c, 255, 0, 0, marked(1)), c, 12)
+        && refuses(lender::decide(c, 0, 2, 4096, marked(1)), c, 12)
+        && refuses(lender::decide(fresh(), 2, 1, 4096, marked(1)), fresh(), 22)
+        && refuses(lender::decide(fresh(), 3, 2, 0, marked(1)), fresh(), 22)
+}
+
+fn main() {
+    print(b"any reads", trial::ANY);
+    print(b"serial runs", trial::SERIAL);
+    print(b"one read disturbed", trial::DISTURBED);
+    print(b"blind writes", trial::BLIND);
+    print(b"read-modify-write chains", trial::CHAINS);
+    text(b"settings out of range and a fresh case are refused as they must be:");
+    yes_no(settings_refused(loaded(b"\x00\x00\x00\x00")));
+    end();
+}

@@ -1,0 +1,46 @@
+-- `direct::passes::passes` is safe and ends. Assumes nothing.
+use Prim.Native.Nat.{_≤_, _-_}
+use borrow.Author.Needs.{needs}
+use Rattle.direct.proofs.passes.passes.Statement.{statement}
+use Rattle.direct.proofs.passes.passes.Tie as tie
+
+abbrev Inv-loop : tie.InvT-loop
+Inv-loop list₀ n p₀ turn₀ list p turn = (turn ≤ 4097)
+
+abbrev μ-loop : tie.MeasureT-loop
+μ-loop list₀ n p₀ turn₀ list p turn = 4097 - turn
+
+loop-holds : tie.Need-loop-holds Inv-loop μ-loop
+loop-holds c = search needs
+
+pass-requires : tie.Need-pass-requires Inv-loop μ-loop
+pass-requires c κs = search needs
+
+returns : tie.Need-returns Inv-loop μ-loop
+returns c = search needs
+
+add-turn : tie.Need-add-turn Inv-loop μ-loop
+add-turn c = search needs
+
+loop-less : tie.Need-loop-less Inv-loop μ-loop
+loop-less c = search needs
+
+loop-again : tie.Need-loop-again Inv-loop μ-loop
+loop-again c = search needs
+
+returns-2 : tie.Need-returns-2 Inv-loop μ-loop
+returns-2 c = search needs
+
+pub passes-spec : {M : Type 1} → statement M
+passes-spec =
+    tie.close
+    (tie.spec
+    Inv-loop
+    μ-loop
+    loop-holds
+    pass-requires
+    returns
+    add-turn
+    loop-less
+    loop-again
+    returns-2)

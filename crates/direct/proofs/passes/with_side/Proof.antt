@@ -1,0 +1,66 @@
+-- `direct::passes::with_side` is safe and ends. Assumes nothing.
+use Prim.Native.Nat.{_≤_, _-_}
+use borrow.Author.Needs.{needs}
+use Rattle.direct.proofs.passes.with_side.Statement.{statement}
+use Rattle.direct.proofs.passes.with_side.Tie as tie
+
+abbrev Inv-loop : tie.InvT-loop
+Inv-loop from to rows out₀ u₀ out u = (u ≤ 32)
+
+abbrev μ-loop : tie.MeasureT-loop
+μ-loop from to rows out₀ u₀ out u = 32 - u
+
+loop-holds : tie.Need-loop-holds Inv-loop μ-loop
+loop-holds c = search needs
+
+has-requires : tie.Need-has-requires Inv-loop μ-loop
+has-requires c κs = search needs
+
+mul-out : tie.Need-mul-out Inv-loop μ-loop
+mul-out c = search needs
+
+array-read-out : tie.Need-array-read-out Inv-loop μ-loop
+array-read-out c = search needs
+
+cast-bit : tie.Need-cast-bit Inv-loop μ-loop
+cast-bit c = search needs
+
+bit-requires : tie.Need-bit-requires Inv-loop μ-loop
+bit-requires c κs = search needs
+
+mul-out-2 : tie.Need-mul-out-2 Inv-loop μ-loop
+mul-out-2 c = search needs
+
+array-write-out : tie.Need-array-write-out Inv-loop μ-loop
+array-write-out c = search needs
+
+add-u : tie.Need-add-u Inv-loop μ-loop
+add-u c = search needs
+
+loop-less : tie.Need-loop-less Inv-loop μ-loop
+loop-less c = search needs
+
+loop-again : tie.Need-loop-again Inv-loop μ-loop
+loop-again c = search needs
+
+returns : tie.Need-returns Inv-loop μ-loop
+returns c = search needs
+
+pub with-side-spec : {M : Type 1} → statement M
+with-side-spec =
+    tie.close
+    (tie.spec
+    Inv-loop
+    μ-loop
+    loop-holds
+    has-requires
+    mul-out
+    array-read-out
+    cast-bit
+    bit-requires
+    mul-out-2
+    array-write-out
+    add-u
+    loop-less
+    loop-again
+    returns)

@@ -1,0 +1,4 @@
+pub mod Callees
+pub mod Packs
+pub mod Places
+pub mod Within

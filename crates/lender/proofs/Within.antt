@@ -1,0 +1,47 @@
+-- What is shown of a list fits it: the count that Encode gives is at most that of the places.
+-- Assumes nothing.
+use mathlib.Core.Path.{_≡_}
+use Prim.Native.Nat.{ℕ, zero, zero-le, _≤_, _<_}
+use native.Mathlib.Nat.{le-trans}
+use native.Mathlib.Omega.{arith}
+use mathlib.Core.Bool.{Bool, true, false, not, cond}
+use lib.Dec.{T, eqb, eqb→eq, ltb, nltb→le}
+use lib.ListN.{length}
+use Rattle.model.specs.Polygraph.{constraints, polygraph}
+use Rattle.model.specs.Lent.{encodedCount}
+use Rattle.model.proofs.Basics.{eqb-ne}
+use Rattle.model.proofs.Pruning.{polygraph-length}
+use Rattle.checker.specs.declared.Case.{Case}
+use Rattle.checker.specs.Cases.{historyIn, stageOf, isFresh}
+use Rattle.checker.specs.Encodings.{settingRefusal, placesRefusal, encodeRefusal, encodeAnswer}
+use Rattle.lender.specs.Packing.{shownOf}
+
+-- where nothing is refused, the constraints before pruning fit the places
+pub counted-within : (c : Case) (e pruning places words : ℕ) → encodeRefusal c e pruning places words ≡ 0 → length (constraints (historyIn c) e) ≤ places
+unfolding encodeRefusal placesRefusal
+counted-within c e pruning places words =
+    go (isFresh (stageOf c)) (eqb (settingRefusal e pruning) 0) (ltb 4096 n) (ltb places n) (ltb words 32) (λ t z. eqb-ne t z) (λ t. nltb→le places n t)
+  where
+    n : ℕ
+    n = length (constraints (historyIn c) e)
+
+    go : (f s m l w : Bool) → (T (not s) → settingRefusal e pruning ≡ 0 → ⊥) → (T (not l) → n ≤ places)
+        → _≡_ {A = ℕ} (cond f 22 (cond s (cond m 14 (cond l 25 (cond w 25 0))) (settingRefusal e pruning))) 0 → n ≤ places
+    go true s m l w r q z = absurd (omega arith)
+    go false true true l w r q z = absurd (omega arith)
+    go false true false true w r q z = absurd (omega arith)
+    go false true false false w r q z = q tt
+    go false false m l w r q z = absurd (r tt z)
+
+pub left-within : (c : Case) (e pruning places words : ℕ) → encodeAnswer c e pruning places words .left ≤ places
+unfolding encodeAnswer encodedCount
+left-within c e pruning places words = go (eqb (encodeRefusal c e pruning places words) 0) (λ t. eqb→eq (encodeRefusal c e pruning places words) 0 t)
+  where
+    go : (b : Bool) → (T b → encodeRefusal c e pruning places words ≡ 0) → cond b (length (polygraph (historyIn c) e pruning .choices)) 0 ≤ places
+    go true p = le-trans (polygraph-length (historyIn c) e pruning) (counted-within c e pruning places words (p tt))
+    go false p = zero-le
+
+pub shown-within : (whole : Bool) (places left : ℕ) → left ≤ places → shownOf whole places left ≤ places
+unfolding shownOf
+shown-within true places left h = omega arith
+shown-within false places left h = h

@@ -1,0 +1,46 @@
+-- `listings::windows::opened` is safe and ends. Assumes nothing.
+use Prim.Native.Nat.{_≤_, _-_}
+use borrow.Author.Needs.{needs}
+use Rattle.listings.proofs.windows.opened.Statement.{statement}
+use Rattle.listings.proofs.windows.opened.Tie as tie
+
+abbrev Inv-loop : tie.InvT-loop
+Inv-loop seed bytes₀ i₀ bytes i = (i ≤ 132)
+
+abbrev μ-loop : tie.MeasureT-loop
+μ-loop seed bytes₀ i₀ bytes i = 132 - i
+
+loop-holds : tie.Need-loop-holds Inv-loop μ-loop
+loop-holds c = search needs
+
+byte-of-requires : tie.Need-byte-of-requires Inv-loop μ-loop
+byte-of-requires c κs = search needs
+
+array-write-bytes : tie.Need-array-write-bytes Inv-loop μ-loop
+array-write-bytes c = search needs
+
+add-i : tie.Need-add-i Inv-loop μ-loop
+add-i c = search needs
+
+loop-less : tie.Need-loop-less Inv-loop μ-loop
+loop-less c = search needs
+
+loop-again : tie.Need-loop-again Inv-loop μ-loop
+loop-again c = search needs
+
+returns : tie.Need-returns Inv-loop μ-loop
+returns c = search needs
+
+pub opened-spec : {M : Type 1} → statement M
+opened-spec =
+    tie.close
+    (tie.spec
+    Inv-loop
+    μ-loop
+    loop-holds
+    byte-of-requires
+    array-write-bytes
+    add-i
+    loop-less
+    loop-again
+    returns)

@@ -1,0 +1,391 @@
+// What Encode writes, against a second, direct listing: of small random histories and of full windows, in the six settings, with lists exactly as long
+// as they must be, longer, and too short by one place or one word.
+use checker::Case;
+use checker::Encoding;
+use checker::Reply;
+use direct::Polygraph;
+use model::Constraint;
+use samples::fresh;
+use samples::lines::end;
+use samples::lines::number;
+use samples::lines::text;
+use samples::loaded;
+use samples::reply_number;
+use samples::same_case;
+use windows::Shape;
+
+mod windows;
+
+// How many small histories there are of each kind, and full windows of each shape.
+const SMALL: u64 = 400;
+
+const FULL: u64 = 4;
+
+// What stood in the lent row words.
+const WORD: u32 = 2863311530;
+
+// A setting, and the lists that are lent: so many places that each hold `mark` in all four fields, and so many row words.
+pub struct Lent {
+    pub encoding: u8,
+    pub pruning: u8,
+    pub places: usize,
+    pub words: usize,
+    pub mark: u32,
+}
+
+// What Encode gives and leaves: its number, its count, whether the case is as it was, and the 40 words that it was lent some of.
+pub struct Seen {
+    pub number: u64,
+    pub left: usize,
+    pub kept: bool,
+    pub rows: [u32; 40],
+}
+
+pub struct Tally {
+    pub polygraphs: u64,
+    pub constraints: u64,
+    pub left: u64,
+    pub different: u64,
+    pub refused: u64,
+    pub otherwise: u64,
+}
+
+// ---- the call
+
+// For lists that cannot be lent: a number that no call gives.
+fn not_called(c: Case) -> Encoding {
+    Encoding {
+        case: c,
+        reply: Reply::Refused(255),
+        left: 0,
+    }
+}
+
+// Encode with the first of the row words.
+fn encode_with(c: Case, l: Lent, rows: &mut [u32], out: &mut [u32]) -> Encoding {
+    let words = l.words;
+    let places = l.places;
+    if words > rows.len() {
+        return not_called(c);
+    }
+    if places > 4096 {
+        return not_called(c);
+    }
+    if out.len() < 16384 {
+        return not_called(c);
+    }
+    let mark = Constraint {
+        fromA: l.mark,
+        toA: l.mark,
+        fromB: l.mark,
+        toB: l.mark,
+    };
+    lender::encode(
+        c,
+        l.encoding,
+        l.pruning,
+        places,
+        mark,
+        true,
+        &mut rows[0..words],
+        out,
+    )
+}
+
+fn encoded(c: Case, l: Lent, out: &mut [u32]) -> Seen {
+    let mut rows = [WORD; 40];
+    let e = encode_with(c, l, &mut rows, out);
+    let r = e.reply;
+    let after = e.case;
+    Seen {
+        number: reply_number(r),
+        left: e.left,
+        kept: same_case(c, after),
+        rows,
+    }
+}
+
+// ---- the comparison
+
+// Whether the first n words are the same.
+fn same_words(a: &[u32; 16384], b: &[u32; 16384], n: usize) -> bool {
+    for i in 0..16384usize {
+        if i >= n {
+            return true;
+        }
+        if a[i] != b[i] {
+            return false;
+        }
+    }
+    true
+}
+
+// Whether the row words are those that are expected, and the further ones as they were.
+fn same_rows(seen: [u32; 40], rows: [u32; 32]) -> bool {
+    for i in 0..40usize {
+        let expected = if i < 32 { rows[i] } else { WORD };
+        if seen[i] != expected {
+            return false;
+        }
+    }
+    true
+}
+
+// Whether Encode writes what is expected to lists that are long enough.
+fn agrees(c: Case, l: Lent, p: Polygraph, list: &[u32; 16384]) -> bool {
+    let mut out = [0u32; 16384];
+    let s = encoded(c, l, &mut out);
+    let seen = s.rows;
+    let rows = p.rows;
+    s.number == 0
+        && s.left == p.left
+        && s.kept
+        && same_rows(seen, rows)
+        && same_words(&out, list, 4 * (l.places % 4097))
+}
+
+// Whether Encode refuses with the number, and leaves all as it was.
+fn refuses(c: Case, l: Lent, expected: u64) -> bool {
+    let blank = [l.mark; 16384];
+    let mut out = [0u32; 16384];
+    let s = encoded(c, l, &mut out);
+    let seen = s.rows;
+    s.number == expected
+        && s.left == 0
+        && s.kept
+        && same_rows(seen, [WORD; 32])
+        && same_words(&out, &blank, 4 * (l.places % 4097))
+}
+
+// ---- the histories
+
+// The same setting with other lists.
+fn with_lists(l: Lent, places: usize, words: usize) -> Lent {
+    Lent {
+        encoding: l.encoding,
+        pruning: l.pruning,
+        places,
+        words,
+        mark: l.mark,
+    }
+}
+
+fn more(n: u64, by: u64) -> u64 {
+    n % 1000000000 + by % 1000000
+}
+
+fn one(yes: bool) -> u64 {
+    if yes { 1 } else { 0 }
+}
+
+// Lists that are exactly long enough, and longer ones.
+fn with_polygraph(t: Tally, c: Case, l: Lent, p: Polygraph, list: &[u32; 16384]) -> Tally {
+    let exact = agrees(c, with_lists(l, p.count, 32), p, list);
+    let longer = agrees(c, with_lists(l, p.count % 4094 + 2, 40), p, list);
+    let mut out = t;
+    out.polygraphs = more(t.polygraphs, 1);
+    out.constraints = more(t.constraints, p.count as u64);
+    out.left = more(t.left, p.left as u64);
+    out.different = more(more(t.different, one(!exact)), one(!longer));
+    out
+}
+
+// Lists that are too short: by a row word, and by a place.
+fn with_refusals(t: Tally, c: Case, l: Lent, p: Polygraph) -> Tally {
+    let rows = refuses(c, with_lists(l, p.count, 31), 25);
+    let mut out = t;
+    out.refused = more(t.refused, one(rows));
+    out.otherwise = more(t.otherwise, one(!rows));
+    if p.count == 0 {
+        return out;
+    }
+    let place = refuses(c, with_lists(l, p.count - 1, 32), 25);
+    out.refused = more(out.refused, one(place));
+    out.otherwise = more(out.otherwise, one(!place));
+    out
+}
+
+// One setting of a log more.
+fn with_setting(t: Tally, log: &[u8], encoding: u8, pruning: u8, mark: u32) -> Tally {
+    let mut list = [mark; 16384];
+    let p = direct::encoded(log, encoding, pruning, &mut list);
+    let c = loaded(log);
+    let l = Lent {
+        encoding,
+        pruning,
+        places: 0,
+        words: 0,
+        mark,
+    };
+    let listed = with_polygraph(t, c, l, p, &list);
+    with_refusals(listed, c, l, p)
+}
+
+// The six settings of the log that is the first `length` bytes.
+fn with_log(t: Tally, bytes: &[u8], length: usize, mark: u32) -> Tally {
+    if length > bytes.len() {
+        return t;
+    }
+    let log = &bytes[0..length];
+    let mut out = t;
+    for s in 0..6u8 {
+        let next = with_setting(out, log, s / 2, s % 2, mark);
+        out = next;
+    }
+    out
+}
+
+fn none() -> Tally {
+    Tally {
+        polygraphs: 0,
+        constraints: 0,
+        left: 0,
+        different: 0,
+        refused: 0,
+        otherwise: 0,
+    }
+}
+
+// The small histories of a kind.
+fn small(kind: u8) -> Tally {
+    let mut t = none();
+    for seed in 0..SMALL {
+        let l = trial::log::of(trial::small(kind, seed));
+        let bytes = l.bytes;
+        let next = with_log(t, &bytes, l.length, (7919 * seed % 4294967295) as u32);
+        t = next;
+    }
+    t
+}
+
+// The histories of a kind with 32 transactions over 4 keys.
+fn few_keys(kind: u8) -> Tally {
+    let mut t = none();
+    for seed in 0..FULL {
+        let l = trial::log::of(trial::history(kind, 32, 4, seed));
+        let bytes = l.bytes;
+        let next = with_log(t, &bytes, l.length, 4294967295);
+        t = next;
+    }
+    t
+}
+
+// The full windows of a shape.
+fn full(shape: Shape) -> Tally {
+    let mut t = none();
+    for seed in 0..FULL {
+        let bytes = windows::log_of(shape, seed);
+        let next = with_log(t, &bytes, 1156, 65535);
+        t = next;
+    }
+    t
+}
+
+// ---- the output
+
+fn print(name: &[u8], t: Tally) {
+    text(name);
+    text(b": polygraphs");
+    number(t.polygraphs);
+    text(b", constraints");
+    number(t.constraints);
+    text(b", left");
+    number(t.left);
+    text(b", different");
+    number(t.different);
+    text(b"; too short a list: refused as it must be");
+    number(t.refused);
+    text(b", otherwise");
+    number(t.otherwise);
+    end();
+}
+
+// Windows whose transactions read and write each of their keys.
+fn print_pairs(name: &[u8], width: u64, loose: bool) {
+    let shape = Shape {
+        pairs: true,
+        sparse: 1,
+        width,
+        loose,
+    };
+    print(name, full(shape));
+}
+
+// Windows whose transactions read or write each of their keys: one operation of so many reads.
+fn print_singles(name: &[u8], sparse: u64, width: u64) {
+    let shape = Shape {
+        pairs: false,
+        sparse,
+        width,
+        loose: false,
+    };
+    print(name, full(shape));
+}
+
+fn asking(encoding: u8, pruning: u8, places: usize, words: usize) -> Lent {
+    Lent {
+        encoding,
+        pruning,
+        places,
+        words,
+        mark: 3,
+    }
+}
+
+// One call more that must be refused with the number.
+fn with_refusal(t: Tally, c: Case, l: Lent, expected: u64) -> Tally {
+    let yes = refuses(c, l, expected);
+    let mut out = t;
+    out.refused = more(t.refused, one(yes));
+    out.otherwise = more(t.otherwise, one(!yes));
+    out
+}
+
+fn print_refusals(name: &[u8], t: Tally) {
+    text(name);
+    text(b": refused as it must be");
+    number(t.refused);
+    text(b", otherwise");
+    number(t.otherwise);
+    end();
+}
+
+// Settings out of range, also where the lists are too short.
+fn settings() -> Tally {
+    let c = loaded(b"\x00\x00\x00\x00");
+    let a = with_refusal(none(), c, asking(3, 0, 4096, 32), 12);
+    let b = with_refusal(a, c, asking(255, 1, 4096, 32), 12);
+    let d = with_refusal(b, c, asking(0, 2, 4096, 32), 12);
+    with_refusal(d, c, asking(2, 255, 0, 31), 12)
+}
+
+// A fresh case, also where the setting is out of range and the lists are too short.
+fn blanks() -> Tally {
+    let a = with_refusal(none(), fresh(), asking(0, 0, 4096, 32), 22);
+    let b = with_refusal(a, fresh(), asking(2, 1, 0, 31), 22);
+    with_refusal(b, fresh(), asking(3, 2, 0, 0), 22)
+}
+
+fn main() {
+    print(b"any reads", small(trial::ANY));
+    print(b"serial runs", small(trial::SERIAL));
+    print(b"one read disturbed", small(trial::DISTURBED));
+    print(b"blind writes", small(trial::BLIND));
+    print(b"read-modify-write chains", small(trial::CHAINS));
+    print(b"32 transactions, any reads", few_keys(trial::ANY));
+    print(
+        b"32 transactions, one read disturbed",
+        few_keys(trial::DISTURBED),
+    );
+    print(b"32 transactions, blind writes", few_keys(trial::BLIND));
+    print(b"32 transactions, chains", few_keys(trial::CHAINS));
+    print_pairs(b"full windows, 4 keys read and written", 1, false);
+    print_pairs(b"full windows, 32 keys read and written", 8, false);
+    print_pairs(b"full windows, 16 keys, some reads of anything", 4, true);
+    print_singles(b"full windows, 8 keys read or written", 2, 1);
+    print_singles(b"full windows, 32 keys read or written", 2, 4);
+    print_singles(b"full windows, 8 keys, one operation of 32 reads", 32, 1);
+    print_singles(b"full windows, 32 keys, one operation of 16 reads", 16, 4);
+    print_refusals(b"settings out of range", settings());
+    print_refusals(b"a fresh case", blanks());
+}
