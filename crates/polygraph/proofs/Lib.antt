@@ -3,3 +3,4 @@ pub mod ReadTable
 pub mod Filling
 pub mod RowLaws
 pub mod RowWords
+pub mod Chained

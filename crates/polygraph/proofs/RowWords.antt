@@ -42,6 +42,16 @@ any-or p q (x ∷ xs) = ap (λ r. (p x || q x) || r) (any-or p q xs) ∙ go (p x
     go false true false d = refl
     go false false c d = refl
 
+pub part-small : (u n readers s : ℕ) → n ≤ 32 → chainPart u n readers s < 2 ^ 32
+unfolding chainPart
+part-small u n readers s few = go (bit readers u) (not (eqb s u)) (ltb s n) (λ t. ltb→lt s n t)
+  where
+    go : (a c b : Bool) → (T b → s < n) → cond (a && (b && c)) (2 ^ s) 0 < 2 ^ 32
+    go true true true f = let l : s < 32 = omega (arith, f tt) in pow-lt l
+    go true false true f = pow-pos 32
+    go true c false f = pow-pos 32
+    go false c b f = pow-pos 32
+
 module _ (h : History) (few : size h ≤ 32) where
   -- ---- the tables, read back
 
@@ -60,7 +70,7 @@ module _ (h : History) (few : size h ≤ 32) where
   pub marks-small : (i : ℕ) → i < 1057 → getD (readMarksOf h) i 0 < 2 ^ 32
   marks-small i l = subst (λ x. x < 2 ^ 32) (sym (mark-is i l)) (word-lt 32 (readMark h i))
 
-  mark-bit : (i s : ℕ) → i < 1057 → s < 32 → bit (getD (readMarksOf h) i 0) s ≡ readMark h i s
+  pub mark-bit : (i s : ℕ) → i < 1057 → s < 32 → bit (getD (readMarksOf h) i 0) s ≡ readMark h i s
   mark-bit i s l m = ap (λ w. bit w s) (mark-is i l) ∙ bit-word 32 (readMark h i) s m
 
   pub good-bit : (i s : ℕ) → i < 1024 → s < 32 → bit (getD (readMarksOf h) i 0) s ≡ goodRead h (i / 32) s (i % 32)
@@ -268,16 +278,9 @@ module _ (h : History) (few : size h ≤ 32) where
         (eq-eqb (sym sv)))))))
 
     chain-small : chainWord (size h) (readMarksOf h) (successorsOf h) u < 2 ^ 32
-    unfolding chainWord chainPart
+    unfolding chainWord
     chain-small =
-        or-small (λ i. cond (bit (getD (readMarksOf h) i 0) u && (ltb (getD (successorsOf h) i 0) (size h) && not (eqb (getD (successorsOf h) i 0) u))) (2 ^ getD (successorsOf h) i 0) 0) 1024
-        (λ i l. go (bit (getD (readMarksOf h) i 0) u) (not (eqb (getD (successorsOf h) i 0) u)) (getD (successorsOf h) i 0) (ltb (getD (successorsOf h) i 0) (size h)) (λ t. ltb→lt (getD (successorsOf h) i 0) (size h) t))
-      where
-        go : (a c : Bool) (s : ℕ) (b : Bool) → (T b → s < size h) → cond (a && (b && c)) (2 ^ s) 0 < 2 ^ 32
-        go true true s true f = let l : s < 32 = omega (arith, f tt) in pow-lt l
-        go true false s true f = pow-pos 32
-        go true c s false f = pow-pos 32
-        go false c s b f = pow-pos 32
+        or-small (λ i. chainPart u (size h) (getD (readMarksOf h) i 0) (getD (successorsOf h) i 0)) 1024 (λ i l. part-small u (size h) (getD (readMarksOf h) i 0) (getD (successorsOf h) i 0) few)
 
     bad-word : (v : ℕ) → bit (putIf 0 u (bit (getD (readMarksOf h) 1056 0) u)) v ≡ (eqb u v && badRead h u)
     unfolding putIf

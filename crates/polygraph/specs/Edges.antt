@@ -38,6 +38,10 @@ keyWord writers marks u = orOver (λ k. keyPart u (getD marks (k * 32 + u) 0) (g
 unfoldable pub chainPart : ℕ → ℕ → ℕ → ℕ → ℕ
 chainPart u n readers s = cond (bit readers u && (ltb s n && not (eqb s u))) (2 ^ s) 0
 
+-- the same, by the word i of the tables; past the good readers there is none
+unfoldable pub chainAt : ℕ → ℕ → List ℕ → List ℕ → ℕ → ℕ
+chainAt u n marks nexts i = cond (ltb i 1024) (chainPart u n (getD marks i 0) (getD nexts i 0)) 0
+
 unfoldable pub chainWord : ℕ → List ℕ → List ℕ → ℕ → ℕ
 chainWord n marks nexts u = orOver (λ i. chainPart u n (getD marks i 0) (getD nexts i 0)) 1024
 

@@ -9,7 +9,7 @@ ghost use Rattle.model.specs.Polygraph.{rows};
 ghost use Rattle.model.specs.History.{Operation, isRead, isWrite, operationsOf};
 ghost use Rattle.model.specs.Log.{transactionsIn, loadNumber, historyOf};
 ghost use Rattle.log.specs.Reading.{InLog};
-ghost use Rattle.polygraph.specs.Edges.{nextBy, successorsBy, keyPart, keyWord, chainPart, chainWord, cabinetWord, rowBy, rowOf, Tabled};
+ghost use Rattle.polygraph.specs.Edges.{nextBy, successorsBy, keyPart, keyWord, chainPart, chainAt, chainWord, cabinetWord, rowBy, rowOf, Tabled};
 use graph::mask::has;
 use graph::mask::put_if;
 use graph::mask::without;
@@ -162,16 +162,38 @@ fn chain_part(u: u32, n: u32, readers: u32, s: u32) -> u32
     if s == u { 0 } else { 1 << s }
 }
 
-// Edges from u to the successors of the writes that it reads.
-fn chain_word(u: u32, n: u32, marks: &[u32; 1057], nexts: &[u32; 1024]) -> u32
+// The edge from u that word `at` of the tables gives, where it is a word of good readers.
+fn chain_at(u: u32, n: u32, marks: &[u32; 1057], nexts: &[u32; 1024], at: usize) -> u32
     requires { ⌜ (u < 32) × (n ≤ 32) ⌝ }
+    ensures { λ r. ⌜ r ≡ chainAt u n (now (marks .entry)) (now (nexts .entry)) at ⌝ }
+{
+    if at >= 1024 {
+        return 0;
+    }
+    chain_part(u, n, marks[at], nexts[at])
+}
+
+// Edges from u to the successors of the writes that it reads: the words that its own operations name are all that have it.
+fn chain_word(
+    log: &[u8],
+    n: usize,
+    u: usize,
+    writers: [u32; 32],
+    marks: &[u32; 1057],
+    nexts: &[u32; 1024],
+) -> u32
+    requires { ⌜ Tabled (now log) n writers (now marks) (now nexts) × (u < n) ⌝ }
     ensures { λ r. ⌜ r ≡ chainWord n (now (marks .entry)) (now (nexts .entry)) u ⌝ }
 {
+    let count = log::count(log, u);
     let mut word: u32 = 0;
-    let mut i: usize = 0;
-    while i < 1024 {
-        word = word | chain_part(u, n, marks[i], nexts[i]);
-        i += 1;
+    let mut m: usize = 0;
+    while m < count {
+        let o = log::operation(log, u, m);
+        let key = o.key;
+        let at = slot(writers[key], u, key, o.argument);
+        word = word | chain_at(u as u32, n as u32, marks, nexts, at);
+        m += 1;
     }
     word
 }
@@ -193,12 +215,20 @@ fn cabinet_word(log: &[u8], n: usize, u: usize) -> u32
 }
 
 // The chained edges, in encoding 2 alone.
-fn chain_row(encoding: u8, u: u32, n: u32, marks: &[u32; 1057], nexts: &[u32; 1024]) -> u32
-    requires { ⌜ (u < 32) × (n ≤ 32) ⌝ }
+fn chain_row(
+    log: &[u8],
+    n: usize,
+    encoding: u8,
+    u: usize,
+    writers: [u32; 32],
+    marks: &[u32; 1057],
+    nexts: &[u32; 1024],
+) -> u32
+    requires { ⌜ Tabled (now log) n writers (now marks) (now nexts) × (u < n) ⌝ }
     ensures { λ r. ⌜ r ≡ cond (eqb encoding 2) (chainWord n (now (marks .entry)) (now (nexts .entry)) u) 0 ⌝ }
 {
     if encoding == 2 {
-        chain_word(u, n, marks, nexts)
+        chain_word(log, n, u, writers, marks, nexts)
     } else {
         0
     }
@@ -224,7 +254,7 @@ fn row(
     let cabinet = cabinet_word(log, n, u);
     let keys = key_word(u, writers, marks);
     let own = put_if(0, u as u32, has(bad, u as u32));
-    let chain = chain_row(encoding, u as u32, n as u32, marks, nexts);
+    let chain = chain_row(log, n, encoding, u, writers, marks, nexts);
     (cabinet | keys) | (own | chain)
 }
 

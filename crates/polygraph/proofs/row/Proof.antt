@@ -34,12 +34,6 @@ has-requires c κs = search needs
 put-if-requires : tie.Need-put-if-requires
 put-if-requires c κs = search needs
 
-cast-chain-row : tie.Need-cast-chain-row
-cast-chain-row c = search needs
-
-cast-chain-row-2 : tie.Need-cast-chain-row-2
-cast-chain-row-2 c = search needs
-
 chain-row-requires : tie.Need-chain-row-requires
 chain-row-requires c κs = search needs
 
@@ -61,7 +55,5 @@ row-spec =
     cast-has
     has-requires
     put-if-requires
-    cast-chain-row
-    cast-chain-row-2
     chain-row-requires
     returns-2)
