@@ -4,6 +4,7 @@ pub mod Data
 pub mod Whole
 pub mod Between
 pub mod Tailing
+pub mod RunFill
 pub mod RunTables
 pub mod Counts
 pub mod PlainFill

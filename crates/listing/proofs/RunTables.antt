@@ -23,7 +23,7 @@ use Rattle.polygraph.specs.Edges.{successorsOf}
 use Rattle.graph.proofs.WordLaws.{bit-minus, or-bit}
 use Rattle.polygraph.proofs.RowWords.{writer-bit, marks-small, good-key, next-at}
 use Rattle.listing.specs.Candidates.{readersAt, lastAt, listBy}
-use Rattle.listing.specs.Runs.{nextPart, headBy, firstBy, tailBy, lastBy, rowBy, firstsBy, tableWord, tableBy, firstOf, lastOf}
+use Rattle.listing.specs.Runs.{nextPart, headBy, firstBy, tailBy, lastBy, rowBy, firstsBy, endBy, tableWord, tableBy, firstOf, lastOf}
 use Rattle.listing.proofs.Between.{Runs, list-is}
 
 and-on : (a b c : Bool) → (T a → b ≡ c) → (a && not b) ≡ (a && not c)
@@ -177,7 +177,7 @@ module _ (h : History) (few : size h ≤ 32) where
 
   abbrev three : ℕ → ℕ → Bool → Bool → Bool → ℕ
   three e i a b c =
-      cond a (rowBy (getD (firsts e) (i / 32) 0) (i % 32)) (cond b (lastBy e (size h) (successorsOf h) ((i - 1024) / 32) ((i - 1024) % 32)) (cond c (getD (readMarksOf h) (i - 2048) 0) e))
+      cond a (rowBy (getD (firsts e) (i / 32) 0) (i % 32)) (cond b (endBy e (size h) (getD (firsts e) ((i - 1024) / 32) 0) (successorsOf h) ((i - 1024) / 32) ((i - 1024) % 32)) (cond c (getD (readMarksOf h) (i - 2048) 0) e))
 
   word-at : (e i : ℕ) → i < 3073 → getD (tab e) i 0 ≡ three e i (ltb i 1024) (ltb i 2048) (ltb i 3072)
   unfolding tableBy tableWord
@@ -195,13 +195,15 @@ module _ (h : History) (few : size h ≤ 32) where
       word-at e c (omega arith) ∙ ap (λ a. three e c a (ltb c 2048) (ltb c 3072)) (lt-ltb c 1024 (omega arith))
       ∙ ap₂ (λ x y. rowBy (getD (firsts e) x 0) y) p q ∙ ap (λ x. rowBy x i) (first-at e k l)
 
-  last-at : (e k g : ℕ) → k < 32 → g < 32 → getD (tab e) (1024 + (k * 32 + g)) 0 ≡ lastBy e (size h) (successorsOf h) k g
-  last-at e k g l m =
+  last-at : (e k g : ℕ) → k < 32 → g < 32 → T (firstOf h e k g) → getD (tab e) (1024 + (k * 32 + g)) 0 ≡ lastBy e (size h) (successorsOf h) k g
+  unfolding endBy
+  last-at e k g l m t =
       let i = 1024 + (k * 32 + g) in
       let p : (1024 + (k * 32 + g) - 1024) / 32 ≡ k = omega arith in
       let q : (1024 + (k * 32 + g) - 1024) % 32 ≡ g = omega arith in
       word-at e i (omega arith) ∙ ap₂ (λ a b. three e i a b (ltb i 3072)) (le-ltb i 1024 (omega arith)) (lt-ltb i 2048 (omega arith))
-      ∙ ap₂ (lastBy e (size h) (successorsOf h)) p q
+      ∙ ap₂ (λ x y. endBy e (size h) (getD (firsts e) x 0) (successorsOf h) x y) p q
+      ∙ ap (λ b. cond b (lastBy e (size h) (successorsOf h) k g) 0) (ap (λ f. bit f g) (first-at e k l) ∙ first-bit e k g l m ∙ true-eq (firstOf h e k g) t)
 
   mark-at : (e i : ℕ) → i < 1024 → getD (tab e) (2048 + i) 0 ≡ getD (readMarksOf h) i 0
   mark-at e i l =
@@ -223,7 +225,7 @@ module _ (h : History) (few : size h ≤ 32) where
         ∙ ap₂ (λ x y. ltb i j && (x && y)) (first-bit e k i l m) (first-bit e k j l n);
     lasts = λ k i l m t.
         let x = last-is e k i l m in
-        let y = last-at e k i l m in
+        let y = last-at e k i l m t in
         let z = x .0 in
         let low = x .1 in
         omega arith;

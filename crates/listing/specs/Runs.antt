@@ -4,7 +4,7 @@ use mathlib.Core.Bool.{Bool, true, false, cond, _&&_}
 use mathlib.Core.List.{List, map}
 use lib.Dec.{eqb, ltb}
 use lib.Bits.{bitAnd, bitXor}
-use lib.ListN.{getD}
+use lib.ListN.{getD, set}
 use Rattle.model.specs.Lists.{upTo, bit}
 use Rattle.model.specs.History.{History, size, writes}
 use Rattle.model.specs.Polygraph.{isHead, tailWithin}
@@ -39,12 +39,33 @@ rowBy firsts i = cond (bit firsts i) (bitXor firsts (bitAnd firsts (2 ^ i - 1 + 
 unfoldable pub firstsBy : ℕ → ℕ → List ℕ → List ℕ → List ℕ
 firstsBy e n writers nexts = map (firstBy e n writers nexts) (upTo 32)
 
+-- the last write of the run that g stands for, or 0 where it stands for none
+unfoldable pub endBy : ℕ → ℕ → ℕ → List ℕ → ℕ → ℕ → ℕ
+endBy e n firsts nexts k g = cond (bit firsts g) (lastBy e n nexts k g) 0
+
+-- ---- how the code fills the words: a key at a time
+
+-- n words from place b on
+unfoldable pub puts : ℕ → (ℕ → ℕ) → ℕ → List ℕ → List ℕ
+puts b v zero w = w
+puts b v (suc n) w = set (puts b v n w) (b + n) (v n)
+
+-- the words of i places of a key: rows and ends
+unfoldable pub keyedTo : ℕ → ℕ → ℕ → List ℕ → ℕ → ℕ → List ℕ → List ℕ
+keyedTo e n firsts nexts k zero w = w
+keyedTo e n firsts nexts k (suc i) w =
+    set (set (keyedTo e n firsts nexts k i w) (k * 32 + i) (rowBy firsts i)) (1024 + k * 32 + i) (endBy e n firsts nexts k i)
+
+-- all of a key; one without runs is passed by
+unfoldable pub keyed : ℕ → ℕ → ℕ → List ℕ → ℕ → List ℕ → List ℕ
+keyed e n firsts nexts k w = cond (eqb firsts 0) w (keyedTo e n firsts nexts k 32 w)
+
 -- ---- the whole list of 3,073 words
 
 unfoldable pub tableWord : ℕ → ℕ → List ℕ → List ℕ → List ℕ → ℕ → ℕ
 tableWord e n firsts marks nexts i =
     cond (ltb i 1024) (rowBy (getD firsts (i / 32) 0) (i % 32))
-    (cond (ltb i 2048) (lastBy e n nexts ((i - 1024) / 32) ((i - 1024) % 32)) (cond (ltb i 3072) (getD marks (i - 2048) 0) e))
+    (cond (ltb i 2048) (endBy e n (getD firsts ((i - 1024) / 32) 0) nexts ((i - 1024) / 32) ((i - 1024) % 32)) (cond (ltb i 3072) (getD marks (i - 2048) 0) e))
 
 unfoldable pub tableBy : ℕ → ℕ → List ℕ → List ℕ → List ℕ → List ℕ
 tableBy e n writers marks nexts = map (tableWord e n (firstsBy e n writers nexts) marks nexts) (upTo 3073)

@@ -1,8 +1,9 @@
 // The tables of runs of writes, for encodings 1 and 2.
 ghost use mathlib.Core.Path.{_≡_};
 ghost use Prim.Native.Nat.{_<_, _≤_, _+_};
+ghost use lib.ListN.{getD};
 ghost use Rattle.graph.specs.Masks.{orOver};
-ghost use Rattle.listing.specs.Runs.{nextPart, headBy, firstBy, tailBy, lastBy, rowBy, firstsBy, tableWord, tableBy};
+ghost use Rattle.listing.specs.Runs.{nextPart, headBy, firstBy, tailBy, lastBy, rowBy, firstsBy, endBy, puts, keyed, tableBy};
 use graph::mask::has;
 
 // The successor s of a writer u, as a mask.
@@ -21,6 +22,9 @@ pub fn head(n: u32, writers: u32, nexts: &[u32; 1024], k: usize) -> u32
     requires { ⌜ (k < 32) × (n ≤ 32) ⌝ }
     ensures { λ r. ⌜ r ≡ headBy n writers (now (nexts .entry)) k ⌝ }
 {
+    if writers == 0 {
+        return 0;
+    }
     let mut word: u32 = 0;
     let mut u: usize = 0;
     while u < 32 {
@@ -100,29 +104,51 @@ fn row(firsts: u32, i: u32) -> u32
     firsts ^ (firsts & upto)
 }
 
-// A word of the tables of runs.
-fn word(
+// The last write of the run that g stands for, or 0 where it stands for none.
+fn run_end(encoding: u8, n: u32, firsts: u32, nexts: &[u32; 1024], k: usize, g: u32) -> u32
+    requires { ⌜ (k < 32) × (n ≤ 32) × (g < 32) ⌝ }
+    ensures { λ r. ⌜ r ≡ endBy encoding n firsts (now (nexts .entry)) k g ⌝ }
+{
+    if !has(firsts, g) {
+        return 0;
+    }
+    last(encoding, n, nexts, k, g)
+}
+
+// The words of a key: its rows of candidates, and the last writes of its runs. A key without runs has none.
+fn key_words(
     encoding: u8,
     n: u32,
-    firsts: &[u32; 32],
-    marks: &[u32; 1057],
+    firsts: u32,
     nexts: &[u32; 1024],
-    i: usize,
-) -> u32
-    requires { ⌜ (n ≤ 32) × (i < 3073) ⌝ }
-    ensures { λ r. ⌜ r ≡ tableWord encoding n (now (firsts .entry)) (now (marks .entry)) (now (nexts .entry)) i ⌝ }
+    k: usize,
+    out: &mut [u32; 3073],
+)
+    requires { ⌜ (k < 32) × (n ≤ 32) ⌝ }
+    ensures { λ _. ⌜ now (out .exit) ≡ keyed encoding n firsts (now (nexts .entry)) k (now (out .entry)) ⌝ }
 {
-    if i < 1024 {
-        return row(firsts[i / 32], (i % 32) as u32);
+    if firsts == 0 {
+        return;
     }
-    if i < 2048 {
-        let j = i - 1024;
-        return last(encoding, n, nexts, j / 32, (j % 32) as u32);
+    let rows = k * 32;
+    let ends = 1024 + rows;
+    let mut i: usize = 0;
+    while i < 32 {
+        out[rows + i] = row(firsts, i as u32);
+        out[ends + i] = run_end(encoding, n, firsts, nexts, k, i as u32);
+        i += 1;
     }
-    if i < 3072 {
-        return marks[i - 2048];
+}
+
+// The good readers.
+fn put_readers(marks: &[u32; 1057], out: &mut [u32; 3073])
+    ensures { λ _. ⌜ now (out .exit) ≡ puts 2048 (λ i. getD (now (marks .entry)) i 0) 1024 (now (out .entry)) ⌝ }
+{
+    let mut i: usize = 0;
+    while i < 1024 {
+        out[2048 + i] = marks[i];
+        i += 1;
     }
-    encoding as u32
 }
 
 // The tables of runs: the rows of candidates, the last writes of the runs, the good readers, and the encoding.
@@ -138,10 +164,12 @@ pub fn table(
 {
     let heads = firsts(encoding, n, writers, nexts);
     let mut out = [0u32; 3073];
-    let mut i: usize = 0;
-    while i < 3073 {
-        out[i] = word(encoding, n, &heads, marks, nexts, i);
-        i += 1;
+    let mut k: usize = 0;
+    while k < 32 {
+        key_words(encoding, n, heads[k], nexts, k, &mut out);
+        k += 1;
     }
+    put_readers(marks, &mut out);
+    out[3072] = encoding as u32;
     out
 }
