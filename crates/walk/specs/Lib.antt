@@ -8,3 +8,4 @@ pub mod Parts
 pub mod Prelude
 pub mod Sharing
 pub mod Slices
+pub mod Turns

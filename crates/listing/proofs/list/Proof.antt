@@ -1,13 +1,14 @@
 -- `listing::list` meets its contract: a walk of its MIR, by hand. The borrow of the list is opened once, before the loop, and closed once, where the loop is left, which is at the test or at the `break`. The tables are passed to `find` in each turn, with their lifetime's token, which comes back.
 --     find-shares      what a call of `find` gives
---     State            what a turn starts from.        Nearer       the order of the states, by what is left of the list
+--     State            what a turn starts from.        left         what falls with each turn: what is left of the list
 --     At               the context of a turn.        ended        the rest of the body, from a state in which the loop is left.        turns        a turn
 -- Assumes nothing.
-use Rattle.walk.specs.Prelude.{_≡_, refl, sym, _∙_, ap, subst, ℕ, _<_, _≤_, _^_, _*_, _+_, _-_, arith, WellFounded, InvImage·wf, List, [], _∷_, ltb→lt, nltb→le, lit<, Nat·lt-wfRel, URA, fullShare, Ty, named, imm, mut, w64, tyBool, tyPtr, tyInt, tyRef, Val, vint, vptr, SProp, ent, sep, emp, via, fst∗, exE, snd∗, Lft, Share, GName, Fml, ftrue, fat, froom, fdies, flft, fobs, fauth, fobor, Memory, Routine, Heap, Out, Env, afterSeq, afterBlock, afterTurn, Calls, Loops, Wp, atReturn, WpFn, Tables, Atoms, sem, Fun, fact, givenOf, tables, tablesOf, Given, Item, ‵, _⊛_, runs, anyQ, atRet, Sq, _$_, _∵_, !, qed, by, move, keep, drop, split, join, rewrite, fsplit, fjoin, suffices, frame, done, look, init, store, store-raw, forget, stop, hop, fld, from, load, lit, of-opd, and-then, no-more, bin, assigns, assigns-last, land, first, skips, jumps, blocks, branches, returns, enter, alloc1, alloc0, params1, pass1, pass0, free1, free0, exec, Below, again, loops, agg, whole, sub, look-in, FmC, fmOf, WpFn-mono, owns, Is, shows, pointee, uint-vals, uint-tells, u32, usize, RefT, sliceTy, MutSlice, Room, heres, codedHoleys, slice-vals, mut-slice-tells, Held, row, elem-out, elem-put, nothing, onEntry, Meets, tripleOf, Contract, Triple, ensured, lasts, entered, cited, says, Stays, stay-dropped, stay-slice, walkOf, goes-dropped, goes-slice, Walks, ends-at, walked, walk-meets, yes, plain, arrayOf}
+use Rattle.walk.specs.Prelude.{_≡_, refl, sym, _∙_, ap, subst, ℕ, _<_, _≤_, _^_, _*_, _+_, _-_, arith, List, [], _∷_, ltb→lt, nltb→le, lit<, URA, fullShare, Ty, named, imm, w64, tyBool, tyPtr, tyRef, Val, vint, vptr, SProp, ent, sep, emp, via, fst∗, exE, snd∗, Lft, Share, GName, Fml, ftrue, fat, froom, fdies, flft, fobs, fauth, fobor, Memory, Routine, Heap, Env, afterTurn, Calls, Loops, WpFn, Tables, Atoms, sem, Fun, fact, givenOf, tables, tablesOf, Given, Item, ‵, _⊛_, runs, anyQ, atRet, Sq, _$_, _∵_, !, qed, by, move, keep, drop, split, join, rewrite, fsplit, fjoin, suffices, frame, done, look, init, store, store-raw, forget, stop, hop, fld, from, load, lit, of-opd, and-then, no-more, bin, assigns, assigns-last, land, first, skips, jumps, blocks, branches, returns, enter, alloc1, alloc0, params1, pass1, pass0, free1, free0, exec, again, loops, agg, whole, sub, look-in, FmC, fmOf, WpFn-mono, owns, Is, shows, pointee, uint-vals, uint-tells, u32, usize, RefT, MutSlice, Room, heres, codedHoleys, slice-vals, mut-slice-tells, Held, row, elem-out, elem-put, nothing, onEntry, Meets, tripleOf, Contract, Triple, ensured, lasts, entered, cited, says, Stays, stay-dropped, stay-slice, walkOf, goes-dropped, goes-slice, Walks, ends-at, walked, walk-meets, yes, plain, arrayOf}
 use Rattle.walk.specs.ByValue.{after, Result}
 use Rattle.walk.specs.Kind.{usizeK, wordsK, vals, Good, val-is, typed, have}
 use Rattle.walk.specs.Sharing.{Shares, through, result-shares, calls-sharing}
 use Rattle.walk.specs.Slices.{lent, counted, opens-arg, closes-arg}
+use Rattle.walk.specs.Turns.{Falls, falls-wf, lentSlice, Turned, word}
 use lib.Dec.{lit≤, eqb, eqb→eq, eqb-refl, T, T-not}
 use lib.ListN.{length, set, getD}
 use denote.Ref.{ShrRef, ptr-vals, shr-tells, shr-copy}
@@ -93,11 +94,8 @@ module _ {M : Type 1} (𝓤 : URA M) (H : Heap 𝓤) (A : Atoms 𝓤) (W : Given
     p-low : p ≤ 32768
     known : Upto bs 0 ys n p l
 
-  abbrev Nearer : State → State → Type 0
-  Nearer t′ t = length ys - t′ .n < length ys - t .n
-
-  Nearer-wf : WellFounded Nearer
-  Nearer-wf = InvImage·wf (λ (t : State). length ys - t .n) (Nat·lt-wfRel .wf)
+  abbrev left : State → ℕ
+  left t = length ys - t .n
 
   module _ (𝓣 : Tables 𝓤 H) (known : Triple 𝓤 (𝓣 .C #listing·find) Find) (l₀ l₁ l₂ l₃ l₄ l₅ l₆ l₇ l₈ : ℕ) where
     abbrev C : Calls 𝓤 H
@@ -110,10 +108,7 @@ module _ {M : Type 1} (𝓤 : URA M) (H : Heap 𝓤) (A : Atoms 𝓤) (W : Given
     ref = tyRef (named 0) imm (pointee (wordsK 3073 .row .written))
 
     abbrev slice : Ty
-    slice = sliceTy (tyRef (named 1) mut (pointee (R .written)))
-
-    abbrev word : Ty
-    word = tyInt w64
+    slice = lentSlice (named 1) R
 
     abbrev En : Env 𝓤 H
     En = (L′.mir, l₀) ∷ (ref, l₁) ∷ (slice, l₂) ∷ (word, l₃) ∷ (word, l₄) ∷ (F′.mir, l₅) ∷ (word, l₆) ∷ (tyBool, l₇) ∷ (tyPtr, l₈) ∷ []
@@ -136,10 +131,7 @@ module _ {M : Type 1} (𝓤 : URA M) (H : Heap 𝓤) (A : Atoms 𝓤) (W : Given
         move ! (12 ∷ 13 ∷ []) $ free1 ! $ move ! (10 ∷ 11 ∷ []) $ free1 ! $ move ! (8 ∷ 9 ∷ []) $ free1 ! $ move ! (6 ∷ 7 ∷ []) $ free1 ! $ move ! (4 ∷ 5 ∷ []) $ free1 ! $ free0 ! $
         keep ! (0 ∷ 1 ∷ 3 ∷ []) $ by ! (exits r (t .l) ok (t .known .len) (upto-all bs 0 ys (t .n) (t .p) (t .l) (t .known) stop-at))
 
-    abbrev Turned : State → Out → SProp 𝓤
-    Turned t = afterTurn 𝓤 H (Below 𝓤 H A Nearer At t) (afterBlock 𝓤 H (afterSeq 𝓤 H (Wp 𝓤 H C Λ En body.t-4 (atReturn 𝓤 H En Post)) (atReturn 𝓤 H En Post)))
-
-    turns : (t : State) → Sq W (At t) (runs C Λ En body.turn-1 (anyQ (Turned t)))
+    turns : (t : State) → Sq W (At t) (runs C Λ En body.turn-1 (anyQ (Turned 𝓤 H A 𝓣 En Post body.t-4 (Falls left) At t)))
     unfolding afterTurn
     turns t =
         -- [the row; the open borrow; obs; auth; the tables; their token; _8 at 6; _7 at 8; _6 at 10; _5 at 12; _4 at 14; _3 at 16; _2 at 18; _1 at 20; _0 at 22], each local with what frees it after it
@@ -147,7 +139,7 @@ module _ {M : Type 1} (𝓤 : URA M) (H : Heap 𝓤) (A : Atoms 𝓤) (W : Given
         assigns ! (bin ! (load ! (from ! (stop !)) (look ! 14 refl)) (load ! (from ! (stop !)) (look ! 10 refl)) tt) (from ! (stop !)) (init ! 8 refl (tt, tt)) $
         first ! $ branches ! (load ! (from ! (stop !)) (look ! 8 refl))
         (λ less. let lt : t .n < length ys = ltb→lt (t .n) (length ys) less in let in-l : t .n < length (t .l) = omega (arith, t .known .len) in let in-fits : t .n * 16 < 2 ^ 64 = fits (length ys) (t .n) room lt in
-        skips ! $ exec ! C Λ En (after (after (after body.turn-1))) (anyQ (Turned t)) $
+        skips ! $ exec ! C Λ En (after (after (after body.turn-1))) (anyQ (Turned 𝓤 H A 𝓣 En Post body.t-4 (Falls left) At t)) $
         -- r = find(tables, at): the tables and their token are brought to the front for the call, and put back
         move ! (4 ∷ 5 ∷ []) $
         calls-sharing ! (fmOf 𝓤 H (W .laws) 𝓣) Words (shr-copy 𝓤 H A W (named 0) κ₀ (wordsK 3073 .row) .twice r₀ (s₀ ∷ [])) κ₀ q₀ (Gave (t .p)) (find-shares C (fmOf 𝓤 H (W .laws) 𝓣) known (t .p) (t .p-fits) (t .p-low))
@@ -159,7 +151,7 @@ module _ {M : Type 1} (𝓤 : URA M) (H : Heap 𝓤) (A : Atoms 𝓤) (W : Given
         first ! $ branches ! (load ! (from ! (stop !)) (look ! 8 refl))
         (λ zero-ok. jumps ! $ exec ! C Λ En body.t-4 (atRet En Post) $ forget ! 8 refl $ forget ! 10 refl $ forget ! 12 refl $ ended t (λ _. ap (λ (w : Found). w .ok) (sym e) ∙ eqb→eq (v .ok) 0 zero-ok))
         (λ more. let more-ok : (v .ok ≡ 0 → ⊥) = (λ z. T-not (eqb (v .ok) 0) more (subst (λ (k : ℕ). T (eqb k 0)) (sym z) (eqb-refl 0))) in
-        skips ! $ exec ! C Λ En (after (after (after (after (after (after body.turn-1)))))) (anyQ (Turned t)) $
+        skips ! $ exec ! C Λ En (after (after (after (after (after (after body.turn-1)))))) (anyQ (Turned 𝓤 H A 𝓣 En Post body.t-4 (Falls left) At t)) $
         -- out[n] = r.item
         assigns ! (bin ! (load ! (from ! (stop !)) (look ! 14 refl)) (lit ! tt) (record { fits = in-fits })) (from ! (stop !)) (store ! 10 refl (tt, record { fits = in-fits })) $
         assigns ! (bin ! (load ! (from ! (fld ! refl (stop !))) (look-in ! 18 (sub ! 0 refl (whole !)))) (load ! (from ! (stop !)) (look ! 10 refl)) tt) (from ! (stop !)) (init ! 6 refl (tt, tt)) $
@@ -171,11 +163,11 @@ module _ {M : Type 1} (𝓤 : URA M) (H : Heap 𝓤) (A : Atoms 𝓤) (W : Given
         assigns ! (of-opd ! (load ! (from ! (fld ! refl (stop !))) (look-in ! 12 (sub ! 1 refl (whole !))))) (from ! (stop !)) (store ! 16 refl (tt, record { fits = next-fits })) $
         assigns-last ! (bin ! (load ! (from ! (stop !)) (look ! 14 refl)) (lit ! tt) (record { fits = omega (arith, room .0) })) (from ! (stop !)) (store ! 14 refl (tt, record { fits = omega (arith, room .0) })) $
         forget ! 6 refl $ forget ! 8 refl $ forget ! 10 refl $ forget ! 12 refl $
-        again ! Nearer At t (record { n = t .n + 1; p = v .next; l = set (t .l) (t .n) (v .item); p-fits = next-fits; p-low = subst (λ (w : Found). w .next ≤ 32768) (sym e) (found-low bs (t .p) (t .p-low)); known = upto-next bs 0 ys (t .n) (t .p) (t .l) v lt (t .known) e more-ok }) (omega arith)))))
+        again ! (Falls left) At t (record { n = t .n + 1; p = v .next; l = set (t .l) (t .n) (v .item); p-fits = next-fits; p-low = subst (λ (w : Found). w .next ≤ 32768) (sym e) (found-low bs (t .p) (t .p-low)); known = upto-next bs 0 ys (t .n) (t .p) (t .l) v lt (t .known) e more-ok }) (omega arith)))))
         (λ over. let le : length ys ≤ t .n = nltb→le (t .n) (length ys) over in jumps ! $ exec ! C Λ En body.t-4 (atRet En Post) $ forget ! 8 refl $ forget ! 10 refl $ ended t (λ h. absurd (omega arith)))
 
     looped : Sq W (At (record { n = 0; p = 0; l = ys; p-fits = lit< tt; p-low = lit≤ tt; known = upto-none bs 0 ys })) (runs C Λ En body.t-3 (atRet En Post))
-    looped = first ! $ blocks ! $ loops ! 𝓣 Nearer Nearer-wf At turns (record { n = 0; p = 0; l = ys; p-fits = lit< tt; p-low = lit≤ tt; known = upto-none bs 0 ys })
+    looped = first ! $ blocks ! $ loops ! 𝓣 (Falls left) (falls-wf left) At turns (record { n = 0; p = 0; l = ys; p-fits = lit< tt; p-low = lit≤ tt; known = upto-none bs 0 ys })
 
   walk : (𝓣 : Tables 𝓤 H) → Triple 𝓤 (𝓣 .C #listing·find) Find → ent 𝓤 (onEntry 𝓤 H A f.signature (κ₀, (κ₁, tt)) (q₀, (q₁, tt)) a at) (WpFn 𝓤 H (𝓣 .C) (𝓣 .Λ) code.function (s₀ ∷ s ∷ []) Post)
   walk 𝓣 known =

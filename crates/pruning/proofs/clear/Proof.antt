@@ -1,7 +1,7 @@
 -- `pruning::clear` meets its contract: a walk of its MIR, by hand. The borrow is opened once, before the loop, and closed once, after it.
 --     State            what a turn starts from: the number i and the list l so far.        At           the context of a turn.        turns        a turn
 -- Assumes nothing.
-use Rattle.walk.specs.Prelude.{_≡_, refl, _∙_, sym, subst, ℕ, _<_, _≤_, _^_, _*_, _+_, _-_, le-antisymm, arith, WellFounded, InvImage·wf, List, [], _∷_, _++_, ltb→lt, nltb→le, lit<, Nat·lt-wfRel, URA, fullShare, Ty, named, mut, w64, tyUnit, tyBool, tyPtr, tyInt, tyRef, Val, vunit, vint, vptr, SProp, ent, sep, Lft, Share, GName, ftrue, fat, froom, fdies, flft, fobs, fauth, fobor, Memory, Routine, afterTurn, Heap, Out, Env, afterSeq, afterBlock, Calls, Loops, Wp, atReturn, WpFn, Tables, Atoms, sem, Fun, tablesOf, givenOf, tables, Given, Item, ‵, _⊛_, runs, anyQ, atRet, Sq, _$_, _∵_, !, qed, by, move, keep, drop, split, join, rewrite, fsplit, fjoin, feqI, suffices, frame, done, look, init, store, store-raw, forget, stop, hop, fld, from, load, lit, unit-lit, of-opd, and-then, no-more, bin, assigns, assigns-last, first, skips, jumps, blocks, branches, returns, enter, alloc1, alloc0, params1, pass1, pass0, free1, free0, exec, Below, again, loops, agg, whole, sub, look-in, WpFn-mono, owns, Is, shows, pointee, uint-vals, uint-tells, usize, RefT, sliceTy, MutSlice, Room, heres, codedHoleys, slice-vals, mut-slice-tells, Held, row, elem-out, elem-put, nothing, onEntry, Meets, tripleOf, entered, says, needs, Stays, stay-dropped, stay-slice, walkOf, goes-dropped, goes-slice, Walks, ends-at, walked, walk-meets, yes, plain}
+use Rattle.walk.specs.Prelude.{_≡_, refl, _∙_, sym, subst, ℕ, _<_, _≤_, _^_, _*_, _+_, _-_, le-antisymm, arith, List, [], _∷_, _++_, ltb→lt, nltb→le, lit<, URA, fullShare, Ty, named, w64, tyUnit, tyBool, tyPtr, Val, vunit, vint, vptr, SProp, ent, sep, Lft, Share, GName, ftrue, fat, froom, fdies, flft, fobs, fauth, fobor, Memory, Routine, afterTurn, Heap, Env, Calls, Loops, WpFn, Tables, Atoms, sem, Fun, tablesOf, givenOf, tables, Given, Item, ‵, _⊛_, runs, anyQ, atRet, Sq, _$_, _∵_, !, qed, by, move, keep, drop, split, join, rewrite, fsplit, fjoin, feqI, suffices, frame, done, look, init, store, store-raw, forget, stop, hop, fld, from, load, lit, unit-lit, of-opd, and-then, no-more, bin, assigns, assigns-last, first, skips, jumps, blocks, branches, returns, enter, alloc1, alloc0, params1, pass1, pass0, free1, free0, exec, again, loops, agg, whole, sub, look-in, WpFn-mono, owns, Is, shows, uint-vals, uint-tells, usize, RefT, MutSlice, Room, heres, codedHoleys, slice-vals, mut-slice-tells, Held, row, elem-out, elem-put, nothing, onEntry, Meets, tripleOf, entered, says, needs, Stays, stay-dropped, stay-slice, walkOf, goes-dropped, goes-slice, Walks, ends-at, walked, walk-meets, yes, plain}
 use lib.ListN.{length, set, take, drop as dropL, replicate, length-set}
 use Rattle.model.specs.declared.Constraint.{Constraint}
 use Rattle.model.specs.Lent.{noConstraint}
@@ -9,6 +9,7 @@ use Rattle.model.proofs.Constraint.Laws as C′
 use Rattle.walk.specs.ByValue.{after}
 use Rattle.walk.specs.Kind.{vals, typed, have}
 use Rattle.walk.specs.Slices.{lent, counted, opens-arg, closes-arg}
+use Rattle.walk.specs.Turns.{Falls, falls-wf, lentSlice, Turned, word}
 use Rattle.graph.proofs.Constraints.{conK, R, none-ok, slot-is, fits}
 use Rattle.pruning.proofs.Zeros.{zeroed, zeroed-is, zeroed-none, zeroed-next}
 use Rattle.pruning.proofs.clear.Key.{name as #pruning·clear}
@@ -53,11 +54,8 @@ module _ {M : Type 1} (𝓤 : URA M) (H : Heap 𝓤) (A : Atoms 𝓤) (W : Given
     len : length l ≡ length ys
     is : l ≡ zeroed start i ys
 
-  abbrev Nearer : State → State → Type 0
-  Nearer t′ t = n - t′ .i < n - t .i
-
-  Nearer-wf : WellFounded Nearer
-  Nearer-wf = InvImage·wf (λ (t : State). n - t .i) (Nat·lt-wfRel .wf)
+  abbrev left : State → ℕ
+  left t = n - t .i
 
   abbrev begin : State
   begin = record { i = start; l = ys; from-low = omega arith; upto = low; len = refl; is = zeroed-none start ys }
@@ -70,10 +68,7 @@ module _ {M : Type 1} (𝓤 : URA M) (H : Heap 𝓤) (A : Atoms 𝓤) (W : Given
     Λ = 𝓣 .Λ
 
     abbrev slice : Ty
-    slice = sliceTy (tyRef (named 0) mut (pointee (R .written)))
-
-    abbrev word : Ty
-    word = tyInt w64
+    slice = lentSlice (named 0) R
 
     abbrev En : Env 𝓤 H
     En = (tyUnit, l₀) ∷ (slice, l₁) ∷ (word, l₂) ∷ (word, l₃) ∷ (C′.mir, l₄) ∷ (word, l₅) ∷ (tyBool, l₆) ∷ (word, l₇) ∷ (tyPtr, l₈) ∷ []
@@ -84,18 +79,14 @@ module _ {M : Type 1} (𝓤 : URA M) (H : Heap 𝓤) (A : Atoms 𝓤) (W : Given
         ∷ ‵ (fat fullShare C′.mir l₄ 0 (conK .val noConstraint)) ∷ ‵ (fdies C′.mir l₄) ∷ ‵ (fat fullShare word l₃ 0 (vint w64 n)) ∷ ‵ (fdies word l₃) ∷ ‵ (fat fullShare word l₂ 0 (vint w64 start)) ∷ ‵ (fdies word l₂)
         ∷ ‵ (fat fullShare slice l₁ 0 s) ∷ ‵ (fdies slice l₁) ∷ ‵ (froom tyUnit l₀ 0) ∷ ‵ (fdies tyUnit l₀) ∷ []
 
-    -- a turn's postcondition: it ends in a state nearer to the end, or the loop is left and the rest of the body runs
-    abbrev Turned : State → Out → SProp 𝓤
-    Turned t = afterTurn 𝓤 H (Below 𝓤 H A Nearer At t) (afterBlock 𝓤 H (afterSeq 𝓤 H (Wp 𝓤 H C Λ En body.t-4 (atReturn 𝓤 H En Post)) (atReturn 𝓤 H En Post)))
-
-    turns : (t : State) → Sq W (At t) (runs C Λ En body.turn-1 (anyQ (Turned t)))
+    turns : (t : State) → Sq W (At t) (runs C Λ En body.turn-1 (anyQ (Turned 𝓤 H A 𝓣 En Post body.t-4 (Falls left) At t)))
     unfolding afterTurn
     turns t =
         -- [the row; the open borrow; obs; auth; _8 at 4; _7 at 6; _6 at 8; _5 at 10; _4 at 12; _3 at 14; _2 at 16; _1 at 18; _0 at 20], each local with what frees it after it
         assigns ! (bin ! (load ! (from ! (stop !)) (look ! 10 refl)) (load ! (from ! (stop !)) (look ! 14 refl)) tt) (from ! (stop !)) (init ! 8 refl (tt, tt)) $
         first ! $ branches ! (load ! (from ! (stop !)) (look ! 8 refl))
         (λ less. let lt : t .i < n = ltb→lt (t .i) n less in let in-l : t .i < length (t .l) = omega (arith, t .len) in let in-fits : t .i * 16 < 2 ^ 64 = fits (length ys) (t .i) room (omega arith) in
-        skips ! $ exec ! C Λ En (after (after body.turn-1)) (anyQ (Turned t)) $
+        skips ! $ exec ! C Λ En (after (after body.turn-1)) (anyQ (Turned 𝓤 H A 𝓣 En Post body.t-4 (Falls left) At t)) $
         -- list[i] = zeros
         assigns ! (bin ! (load ! (from ! (stop !)) (look ! 10 refl)) (lit ! tt) (record { fits = in-fits })) (from ! (stop !)) (init ! 6 refl (tt, record { fits = in-fits })) $
         assigns ! (bin ! (load ! (from ! (fld ! refl (stop !))) (look-in ! 18 (sub ! 0 refl (whole !)))) (load ! (from ! (stop !)) (look ! 6 refl)) tt) (from ! (stop !)) (init ! 4 refl (tt, tt)) $
@@ -106,7 +97,7 @@ module _ {M : Type 1} (𝓤 : URA M) (H : Heap 𝓤) (A : Atoms 𝓤) (W : Given
         -- i += 1
         assigns-last ! (bin ! (load ! (from ! (stop !)) (look ! 10 refl)) (lit ! tt) (record { fits = omega arith })) (from ! (stop !)) (store ! 10 refl (tt, record { fits = omega arith })) $
         forget ! 4 refl $ forget ! 6 refl $ forget ! 8 refl $
-        again ! Nearer At t (record { i = t .i + 1; l = set (t .l) (t .i) noConstraint; from-low = omega (arith, t .from-low); upto = omega arith; len = length-set (t .l) (t .i) noConstraint ∙ t .len; is = zeroed-next start (t .i) ys (t .l) (t .from-low) (omega arith) (t .is) }) (omega arith)))
+        again ! (Falls left) At t (record { i = t .i + 1; l = set (t .l) (t .i) noConstraint; from-low = omega (arith, t .from-low); upto = omega arith; len = length-set (t .l) (t .i) noConstraint ∙ t .len; is = zeroed-next start (t .i) ys (t .l) (t .from-low) (omega arith) (t .is) }) (omega arith)))
         (λ over. jumps ! $ exec ! C Λ En body.t-4 (atRet En Post) $ closes-arg ! tt R (named 0) (length ys) ys (t .l) refl (t .len) room b o $
         -- [what list owns; the token; _8 at 2; _7 at 4; _6 at 6; _5 at 8; _4 at 10; _3 at 12; _2 at 14; _1 at 16; _0 at 18]
         assigns ! (of-opd ! (unit-lit !)) (from ! (stop !)) (init ! 18 refl (tt, tt)) $
@@ -116,7 +107,7 @@ module _ {M : Type 1} (𝓤 : URA M) (H : Heap 𝓤) (A : Atoms 𝓤) (W : Given
 
     -- the loop, from the start
     looped : Sq W (At begin) (runs C Λ En body.t-3 (atRet En Post))
-    looped = first ! $ blocks ! $ loops ! 𝓣 Nearer Nearer-wf At turns begin
+    looped = first ! $ blocks ! $ loops ! 𝓣 (Falls left) (falls-wf left) At turns begin
 
   walk : (𝓣 : Tables 𝓤 H) → ent 𝓤 (onEntry 𝓤 H A f.signature (κ, tt) (q, tt) a at) (WpFn 𝓤 H (𝓣 .C) (𝓣 .Λ) code.function (s ∷ vint w64 start ∷ vint w64 n ∷ []) Post)
   walk 𝓣 =

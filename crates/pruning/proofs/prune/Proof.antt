@@ -1,14 +1,15 @@
 -- `pruning::prune` meets its contract: a walk of its MIR, by hand. In each turn the list is lent to `skim`, and beside it the closed rows, a local, by `&`; both come back.
---     State            what a turn starts from.        Nearer       the order of the states, by what is left to do
+--     State            what a turn starts from.        left         what falls with each turn: what is left to do
 --     At               the context of a turn: the list, its token and the closed rows stand in front.        ended        the rest of the body, once no pass is on.        turns        a turn
 -- Assumes nothing.
-use Rattle.walk.specs.Prelude.{_≡_, refl, sym, _∙_, ap, subst, ℕ, _<_, _≤_, _^_, _*_, _+_, _-_, arith, WellFounded, InvImage·wf, List, [], _∷_, lit<, Nat·lt-wfRel, URA, fullShare, Ty, named, erased, imm, mut, w8, w32, w64, tyBool, tyPtr, tyInt, tyArray, tyRef, Val, vint, vptr, SProp, ent, sep, Lft, Share, GName, ftrue, fat, froom, fdies, flft, Memory, Routine, Heap, Out, Env, afterSeq, afterBlock, afterTurn, Calls, Loops, Wp, atReturn, WpFn, Tables, Atoms, sem, Fun, givenOf, tables, tablesOf, Given, Item, ‵, _⊛_, runs, anyQ, atRet, Sq, _$_, _∵_, !, qed, by, move, keep, drop, split, join, rewrite, fsplit, fjoin, suffices, frame, done, look, init, store, forget, stop, hop, fld, from, load, lit, of-opd, and-then, no-more, bin, addr, assigns, assigns-last, land, first, skips, jumps, blocks, branches, returns, enter, alloc1, alloc0, params1, pass1, pass0, free1, free0, exec, Below, again, loops, agg, whole, sub, look-in, fmOf, WpFn-mono, owns, pointee, uint-vals, uint-tells, u8, u32, usize, RefT, sliceTy, MutSlice, Room, slice-vals, mut-slice-tells, nothing, onEntry, needs, Meets, tripleOf, Triple, entered, cited, says, Stays, stay-dropped, stay-slice, walkOf, goes-dropped, goes-slice, Walks, ends-at, walked, walk-meets, yes, plain, arrayOf}
+use Rattle.walk.specs.Prelude.{_≡_, refl, sym, _∙_, ap, subst, ℕ, _<_, _≤_, _^_, _*_, _+_, _-_, arith, List, [], _∷_, lit<, URA, fullShare, Ty, named, erased, imm, mut, w8, w32, w64, tyBool, tyPtr, tyInt, tyArray, tyRef, Val, vint, vptr, SProp, ent, sep, Lft, Share, GName, ftrue, fat, froom, fdies, flft, Memory, Routine, Heap, Env, afterTurn, Calls, Loops, WpFn, Tables, Atoms, sem, Fun, givenOf, tables, tablesOf, Given, Item, ‵, _⊛_, runs, anyQ, atRet, Sq, _$_, _∵_, !, qed, by, move, keep, drop, split, join, rewrite, fsplit, fjoin, suffices, frame, done, look, init, store, forget, stop, hop, fld, from, load, lit, of-opd, and-then, no-more, bin, addr, assigns, assigns-last, land, first, skips, jumps, blocks, branches, returns, enter, alloc1, alloc0, params1, pass1, pass0, free1, free0, exec, again, loops, agg, whole, sub, look-in, fmOf, WpFn-mono, owns, pointee, uint-vals, uint-tells, u8, u32, usize, RefT, sliceTy, MutSlice, Room, slice-vals, mut-slice-tells, nothing, onEntry, needs, Meets, tripleOf, Triple, entered, cited, says, Stays, stay-dropped, stay-slice, walkOf, goes-dropped, goes-slice, Walks, ends-at, walked, walk-meets, yes, plain, arrayOf}
 use Rattle.walk.specs.Both.{calls-both}
 use Rattle.walk.specs.ByValue.{after, Result, calls-by-value}
 use Rattle.walk.specs.Kind.{wordsK, vals, Good, good, val-is, typed, have, words-long, words-small}
 use Rattle.walk.specs.Lending.{Answer}
 use Rattle.walk.specs.Locals.{shared, lends-local, local-back}
 use Rattle.walk.specs.Slices.{lent, counted}
+use Rattle.walk.specs.Turns.{byte, Falls, falls-wf, lentSlice, Turned, word}
 use lib.Dec.{eqb, eqb→eq, eqb-refl, T, T-not}
 use lib.ListN.{length}
 use denote.Ref.{ShrRef, shr-copy}
@@ -101,11 +102,8 @@ module _ {M : Type 1} (𝓤 : URA M) (H : Heap 𝓤) (A : Atoms 𝓤) (W : Given
     closed : cl ≡ reach g
     known : Stands rows ys n pruning g l p
 
-  abbrev Nearer : State → State → Type 0
-  Nearer t′ t = todo (t′ .p) < todo (t .p)
-
-  Nearer-wf : WellFounded Nearer
-  Nearer-wf = InvImage·wf (λ (t : State). todo (t .p)) (Nat·lt-wfRel .wf)
+  abbrev left : State → ℕ
+  left t = todo (t .p)
 
   -- the turn after a hit
   next-state : (t : State) (h : Hit) (zs : List Constraint) (p′ : Place) (g′ cl′ : List ℕ) → t .p .on ≡ 1 → Skims (t .cl) (t .l) (t .p) h zs → length zs ≡ m
@@ -132,19 +130,13 @@ module _ {M : Type 1} (𝓤 : URA M) (H : Heap 𝓤) (A : Atoms 𝓤) (W : Given
     Λ = 𝓣 .Λ
 
     abbrev slice : Ty
-    slice = sliceTy (tyRef (named 0) mut (pointee (R .written)))
+    slice = lentSlice (named 0) R
 
     abbrev ref : Ty
     ref = tyRef erased mut (pointee (R .written))
 
     abbrev shr : Ty
     shr = tyRef erased imm (pointee (wordsK 32 .row .written))
-
-    abbrev word : Ty
-    word = tyInt w64
-
-    abbrev byte : Ty
-    byte = tyInt w8
 
     abbrev array : Ty
     array = tyArray (tyInt w32) 32
@@ -169,17 +161,14 @@ module _ {M : Type 1} (𝓤 : URA M) (H : Heap 𝓤) (A : Atoms 𝓤) (W : Given
         move ! (16 ∷ 17 ∷ []) $ free1 ! $ move ! (14 ∷ 15 ∷ []) $ free1 ! $ move ! (12 ∷ 13 ∷ []) $ free1 ! $ move ! (10 ∷ 11 ∷ []) $ free1 ! $ move ! (8 ∷ 9 ∷ []) $ free1 ! $ move ! (6 ∷ 7 ∷ []) $ free1 ! $ move ! (4 ∷ 5 ∷ []) $ free1 ! $ move ! (2 ∷ 3 ∷ []) $ free1 ! $ free0 ! $
         by ! (exits r (t .l) ok (t .known .len) (stands-end rows ys n pruning (t .g) (t .l) (t .p) (t .known) off within))
 
-    abbrev Turned : State → Out → SProp 𝓤
-    Turned t = afterTurn 𝓤 H (Below 𝓤 H A Nearer At t) (afterBlock 𝓤 H (afterSeq 𝓤 H (Wp 𝓤 H C Λ En body.t-6 (atReturn 𝓤 H En Post)) (atReturn 𝓤 H En Post)))
-
-    turns : (t : State) → Sq W (At t) (runs C Λ En body.turn-1 (anyQ (Turned t)))
+    turns : (t : State) → Sq W (At t) (runs C Λ En body.turn-1 (anyQ (Turned 𝓤 H A 𝓣 En Post body.t-6 (Falls left) At t)))
     unfolding afterTurn next-state
     turns t =
         -- the positions as in `ended`
         assigns ! (bin ! (load ! (from ! (fld ! refl (stop !))) (look-in ! 21 (sub ! 3 refl (whole !)))) (lit ! tt) tt) (from ! (stop !)) (init ! 11 refl (tt, tt)) $
         first ! $ branches ! (load ! (from ! (stop !)) (look ! 11 refl))
         (λ is-on. let on : t .p .on ≡ 1 = eqb→eq (t .p .on) 1 is-on in let p-fits = of-place (t .p) _ (t .p-ok) in
-        skips ! $ exec ! C Λ En (after (after body.turn-1)) (anyQ (Turned t)) $
+        skips ! $ exec ! C Λ En (after (after body.turn-1)) (anyQ (Turned 𝓤 H A 𝓣 En Post body.t-6 (Falls left) At t)) $
         assigns ! (addr ! (from ! (stop !))) (from ! (stop !)) (init ! 9 refl (tt, tt)) $
         assigns ! (addr ! (from ! (fld ! refl (hop ! (look-in ! 30 (sub ! 0 refl (whole !))) (stop !))))) (from ! (stop !)) (init ! 7 refl (tt, tt)) $
         assigns ! (agg ! (and-then ! (load ! (from ! (stop !)) (look ! 7 refl)) (and-then ! (load ! (from ! (fld ! refl (stop !))) (look-in ! 30 (sub ! 1 refl (whole !)))) (no-more !)))) (from ! (stop !)) (init ! 5 refl (tt, (tt, (record { fits = room .0 }, tt)))) $
@@ -212,7 +201,7 @@ module _ {M : Type 1} (𝓤 : URA M) (H : Heap 𝓤) (A : Atoms 𝓤) (W : Given
         land ! (from ! (stop !)) (init ! 15 refl (typed (wordsK 32) 𝓤 H A W cl′ u₃ (gave₃ .1 .1) .0)) $ rewrite ! 15 (λ (w : Val). ‵ (fat fullShare array l₁₀ 0 w)) (val-is (wordsK 32) cl′ u₃ (gave₃ .1 .1)) refl $
         assigns-last ! (of-opd ! (load ! (from ! (stop !)) (look ! 15 refl))) (from ! (stop !)) (store ! 2 refl (typed (wordsK 32) 𝓤 H A W cl′ _ cl-ok .0)) $
         forget ! 3 refl $ forget ! 5 refl $ forget ! 7 refl $ forget ! 9 refl $ forget ! 11 refl $ forget ! 15 refl $ forget ! 17 refl $ forget ! 19 refl $
-        again ! Nearer At t (next-state t h zs p′ g′ cl′ on skims len (gave₁ .1 .0) (good placeK p′ u₁ (gave₁ .1 .1)) (gave₂ .1 .0) g-ok (gave₃ .1 .0) cl-ok)
+        again ! (Falls left) At t (next-state t h zs p′ g′ cl′ on skims len (gave₁ .1 .0) (good placeK p′ u₁ (gave₁ .1 .1)) (gave₂ .1 .0) g-ok (gave₃ .1 .0) cl-ok)
         (subst (λ (x : Place). todo x < todo (t .p)) (sym (gave₁ .1 .0)) (todo-less (t .g) (t .l) zs (t .p) h on skimmed))))))))
         (λ is-off. jumps ! $ exec ! C Λ En body.t-6 (atRet En Post) $ forget ! 11 refl $ let off : (t .p .on ≡ 1 → ⊥) = (λ z. T-not (eqb (t .p .on) 1) is-off (subst (λ (k : ℕ). T (eqb k 1)) (sym z) (eqb-refl 1))) in ended t (omega (arith, t .known .flag, off)))
 
@@ -220,7 +209,7 @@ module _ {M : Type 1} (𝓤 : URA M) (H : Heap 𝓤) (A : Atoms 𝓤) (W : Given
     begin = record { p = p₀; g = rows; cl = cl₀; l = ys; p-ok = p₀-ok; g-ok = rows-ok; cl-ok = cl₀-ok; closed = cl₀-is; known = subst (Stands rows ys n pruning rows ys) (sym p₀-is) (stands-start rows ys n pruning within aims) }
 
     looped : Sq W (At begin) (runs C Λ En body.t-5 (atRet En Post))
-    looped = first ! $ blocks ! $ loops ! 𝓣 Nearer Nearer-wf At turns begin
+    looped = first ! $ blocks ! $ loops ! 𝓣 (Falls left) (falls-wf left) At turns begin
 
   walk : (𝓣 : Tables 𝓤 H) → Known 𝓤 H A mem run (𝓣 .C) → ent 𝓤 (onEntry 𝓤 H A f.signature (κ, tt) (q, tt) a at) (WpFn 𝓤 H (𝓣 .C) (𝓣 .Λ) code.function (wordsK 32 .val rows ∷ s ∷ vint w64 n ∷ vint w8 pruning ∷ []) Post)
   walk 𝓣 known =

@@ -1,12 +1,13 @@
 -- `pruning::skim` meets its contract: a walk of its MIR, by hand. The borrow of the list is opened once, before the loop, and closed once, where the loop is left, at the test or at the `break`. The closed rows are passed to `judge` in each turn, with their lifetime's token, which comes back.
---     State            what a turn starts from.        Nearer       the order of the states, by what is left of the pass
+--     State            what a turn starts from.        left         what falls with each turn: what is left of the pass
 --     Holds            the context of a turn.        ended        the rest of the body, from a state in which the loop is left.        turns        a turn
 -- Assumes nothing.
-use Rattle.walk.specs.Prelude.{_≡_, refl, sym, _∙_, ap, subst, ℕ, _<_, _≤_, _^_, _*_, _+_, _-_, arith, WellFounded, InvImage·wf, List, [], _∷_, ltb→lt, nltb→le, lit<, Nat·lt-wfRel, URA, fullShare, Ty, named, imm, mut, w64, tyBool, tyPtr, tyInt, tyRef, Val, vint, vptr, SProp, ent, sep, Lft, Share, GName, Fml, ftrue, fat, froom, fdies, flft, fobs, fauth, fobor, Memory, Routine, Heap, Out, Env, afterSeq, afterBlock, afterTurn, Calls, Loops, Wp, atReturn, WpFn, Tables, Atoms, sem, Fun, givenOf, tables, tablesOf, Given, Item, ‵, _⊛_, runs, anyQ, atRet, Sq, _$_, _∵_, !, qed, by, move, keep, drop, split, join, rewrite, fsplit, fjoin, suffices, frame, done, look, look-raw, init, store, store-raw, forget, stop, hop, fld, from, load, lit, of-opd, and-then, no-more, bin, assigns, assigns-last, land, first, skips, jumps, blocks, branches, returns, enter, alloc1, alloc0, params1, pass1, pass0, free1, free0, exec, Below, again, loops, agg, whole, sub, look-in, fmOf, WpFn-mono, owns, Is, shows, pointee, uint-vals, uint-tells, u32, usize, RefT, sliceTy, MutSlice, Room, heres, codedHoleys, slice-vals, mut-slice-tells, Held, row, elem-out, elem-back, elem-put, nothing, onEntry, needs, Meets, tripleOf, Triple, entered, cited, says, Stays, stay-dropped, stay-slice, walkOf, goes-dropped, goes-slice, Walks, ends-at, walked, walk-meets, yes, plain, arrayOf}
+use Rattle.walk.specs.Prelude.{_≡_, refl, sym, _∙_, ap, subst, ℕ, _<_, _≤_, _^_, _*_, _+_, _-_, arith, List, [], _∷_, ltb→lt, nltb→le, lit<, URA, fullShare, Ty, named, imm, w64, tyBool, tyPtr, tyRef, Val, vint, vptr, SProp, ent, sep, Lft, Share, GName, Fml, ftrue, fat, froom, fdies, flft, fobs, fauth, fobor, Memory, Routine, Heap, Env, afterTurn, Calls, Loops, WpFn, Tables, Atoms, sem, Fun, givenOf, tables, tablesOf, Given, Item, ‵, _⊛_, runs, anyQ, atRet, Sq, _$_, _∵_, !, qed, by, move, keep, drop, split, join, rewrite, fsplit, fjoin, suffices, frame, done, look, look-raw, init, store, store-raw, forget, stop, hop, fld, from, load, lit, of-opd, and-then, no-more, bin, assigns, assigns-last, land, first, skips, jumps, blocks, branches, returns, enter, alloc1, alloc0, params1, pass1, pass0, free1, free0, exec, again, loops, agg, whole, sub, look-in, fmOf, WpFn-mono, owns, Is, shows, pointee, uint-vals, uint-tells, u32, usize, RefT, MutSlice, Room, heres, codedHoleys, slice-vals, mut-slice-tells, Held, row, elem-out, elem-back, elem-put, nothing, onEntry, needs, Meets, tripleOf, Triple, entered, cited, says, Stays, stay-dropped, stay-slice, walkOf, goes-dropped, goes-slice, Walks, ends-at, walked, walk-meets, yes, plain, arrayOf}
 use Rattle.walk.specs.ByValue.{after, Result}
 use Rattle.walk.specs.Kind.{wordsK, vals, Good, good, val-is, typed, have}
 use Rattle.walk.specs.Sharing.{calls-sharing}
 use Rattle.walk.specs.Slices.{lent, counted, opens-arg, closes-arg}
+use Rattle.walk.specs.Turns.{Falls, falls-wf, lentSlice, Turned, word}
 use lib.Dec.{eqb, eqb→eq, eqb-refl, T, T-not}
 use lib.ListN.{length, set, getD}
 use denote.Ref.{ShrRef, ptr-vals, shr-tells, shr-copy}
@@ -85,11 +86,8 @@ module _ {M : Type 1} (𝓤 : URA M) (H : Heap 𝓤) (A : Atoms 𝓤) (W : Given
     idle : Idle closed ys at₀ kept₀ end₀ w
     known : Upto closed ys at₀ kept₀ end₀ i j l
 
-  abbrev Nearer : State → State → Type 0
-  Nearer t′ t = end₀ - t′ .i < end₀ - t .i
-
-  Nearer-wf : WellFounded Nearer
-  Nearer-wf = InvImage·wf (λ (t : State). end₀ - t .i) (Nat·lt-wfRel .wf)
+  abbrev left : State → ℕ
+  left t = end₀ - t .i
 
   abbrev zero-verdict : Verdict
   zero-verdict = record { drops = 0; from = 0; to = 0 }
@@ -111,10 +109,7 @@ module _ {M : Type 1} (𝓤 : URA M) (H : Heap 𝓤) (A : Atoms 𝓤) (W : Given
     ref = tyRef (named 0) imm (pointee (wordsK 32 .row .written))
 
     abbrev slice : Ty
-    slice = sliceTy (tyRef (named 1) mut (pointee (R .written)))
-
-    abbrev word : Ty
-    word = tyInt w64
+    slice = lentSlice (named 1) R
 
     abbrev En : Env 𝓤 H
     En = (T′.mir, l₀) ∷ (ref, l₁) ∷ (slice, l₂) ∷ (word, l₃) ∷ (word, l₄) ∷ (word, l₅) ∷ (word, l₆) ∷ (word, l₇) ∷ (J′.mir, l₈) ∷ (C′.mir, l₉) ∷ (tyBool, l₁₀) ∷ (word, l₁₁) ∷ (tyPtr, l₁₂) ∷ (C′.mir, l₁₃) ∷ (tyPtr, l₁₄) ∷ []
@@ -143,10 +138,7 @@ module _ {M : Type 1} (𝓤 : URA M) (H : Heap 𝓤) (A : Atoms 𝓤) (W : Given
         move ! (16 ∷ 17 ∷ []) $ free1 ! $ move ! (14 ∷ 15 ∷ []) $ free1 ! $ move ! (12 ∷ 13 ∷ []) $ free1 ! $ move ! (10 ∷ 11 ∷ []) $ free1 ! $ move ! (8 ∷ 9 ∷ []) $ free1 ! $ move ! (6 ∷ 7 ∷ []) $ free1 ! $ move ! (4 ∷ 5 ∷ []) $ free1 ! $ free0 ! $
         keep ! (0 ∷ 1 ∷ 3 ∷ []) $ by ! (exits r l ok (u .len) e)
 
-    abbrev Turned : State → Out → SProp 𝓤
-    Turned t = afterTurn 𝓤 H (Below 𝓤 H A Nearer At t) (afterBlock 𝓤 H (afterSeq 𝓤 H (Wp 𝓤 H C Λ En body.t-5 (atReturn 𝓤 H En Post)) (atReturn 𝓤 H En Post)))
-
-    turns : (t : State) → Sq W (At t) (runs C Λ En body.turn-1 (anyQ (Turned t)))
+    turns : (t : State) → Sq W (At t) (runs C Λ En body.turn-1 (anyQ (Turned 𝓤 H A 𝓣 En Post body.t-5 (Falls left) At t)))
     unfolding afterTurn
     turns t =
         -- [the row; the open borrow; obs; auth; the rows; their token; _14 at 6; _13 at 8; _12 at 10; _11 at 12; _10 at 14; _9 at 16; _8 at 18; _7 at 20; _6 at 22; _5 at 24; _4 at 26; _3 at 28; _2 at 30; _1 at 32; _0 at 34], each local with what frees it after it
@@ -156,7 +148,7 @@ module _ {M : Type 1} (𝓤 : URA M) (H : Heap 𝓤) (A : Atoms 𝓤) (W : Given
         let i-in : t .i < length (t .l) = omega (arith, t .known .len) in let i-fits : t .i * 16 < 2 ^ 64 = fits (length ys) (t .i) room (omega arith) in
         let j-in : t .j < length (t .l) = omega (arith, t .known .len, t .known .behind) in let j-fits : t .j * 16 < 2 ^ 64 = fits (length ys) (t .j) room (omega (arith, t .known .behind)) in
         let c : Constraint = getD (t .l) (t .i) noConstraint in
-        skips ! $ exec ! C Λ En (after (after body.turn-1)) (anyQ (Turned t)) $
+        skips ! $ exec ! C Λ En (after (after body.turn-1)) (anyQ (Turned 𝓤 H A 𝓣 En Post body.t-5 (Falls left) At t)) $
         -- c = list[i]
         assigns ! (bin ! (load ! (from ! (stop !)) (look ! 22 refl)) (lit ! tt) (record { fits = i-fits })) (from ! (stop !)) (init ! 12 refl (tt, record { fits = i-fits })) $
         assigns ! (bin ! (load ! (from ! (fld ! refl (stop !))) (look-in ! 30 (sub ! 0 refl (whole !)))) (load ! (from ! (stop !)) (look ! 12 refl)) tt) (from ! (stop !)) (init ! 10 refl (tt, tt)) $
@@ -177,7 +169,7 @@ module _ {M : Type 1} (𝓤 : URA M) (H : Heap 𝓤) (A : Atoms 𝓤) (W : Given
         (λ drops. jumps ! $ exec ! C Λ En body.t-5 (atRet En Post) $ forget ! 8 refl $ forget ! 10 refl $ forget ! 12 refl $ forget ! 14 refl $ forget ! 16 refl $
         ended (t .i) (t .j) (t .l) v v-ok (t .known) (upto-hit closed ys at₀ kept₀ end₀ (t .i) (t .j) (t .l) v (t .known) within e lt (eqb→eq (v .drops) 1 drops)))
         (λ stays. let stays-on : (v .drops ≡ 1 → ⊥) = (λ z. T-not (eqb (v .drops) 1) stays (subst (λ (k : ℕ). T (eqb k 1)) (sym z) (eqb-refl 1))) in
-        skips ! $ exec ! C Λ En (after (after (after (after (after (after (after (after (after body.turn-1))))))))) (anyQ (Turned t)) $
+        skips ! $ exec ! C Λ En (after (after (after (after (after (after (after (after (after body.turn-1))))))))) (anyQ (Turned 𝓤 H A 𝓣 En Post body.t-5 (Falls left) At t)) $
         -- list[j] = c
         assigns ! (bin ! (load ! (from ! (stop !)) (look ! 20 refl)) (lit ! tt) (record { fits = j-fits })) (from ! (stop !)) (store ! 12 refl (tt, record { fits = j-fits })) $
         assigns ! (bin ! (load ! (from ! (fld ! refl (stop !))) (look-in ! 30 (sub ! 0 refl (whole !)))) (load ! (from ! (stop !)) (look ! 12 refl)) tt) (from ! (stop !)) (init ! 6 refl (tt, tt)) $
@@ -189,11 +181,11 @@ module _ {M : Type 1} (𝓤 : URA M) (H : Heap 𝓤) (A : Atoms 𝓤) (W : Given
         assigns ! (bin ! (load ! (from ! (stop !)) (look ! 20 refl)) (lit ! tt) (record { fits = omega (arith, t .known .behind) })) (from ! (stop !)) (store ! 20 refl (tt, record { fits = omega (arith, t .known .behind) })) $
         assigns-last ! (bin ! (load ! (from ! (stop !)) (look ! 22 refl)) (lit ! tt) (record { fits = omega arith })) (from ! (stop !)) (store ! 22 refl (tt, record { fits = omega arith })) $
         forget ! 6 refl $ forget ! 8 refl $ forget ! 10 refl $ forget ! 12 refl $ forget ! 14 refl $ forget ! 16 refl $
-        again ! Nearer At t (record { i = t .i + 1; j = t .j + 1; l = set (t .l) (t .j) c; w = v; w-ok = v-ok; idle = upto-idle closed ys at₀ kept₀ end₀ (t .i) (t .j) (t .l) v (t .known) within e stays-on; known = upto-next closed ys at₀ kept₀ end₀ (t .i) (t .j) (t .l) v (t .known) within e lt stays-on }) (omega arith))))))
+        again ! (Falls left) At t (record { i = t .i + 1; j = t .j + 1; l = set (t .l) (t .j) c; w = v; w-ok = v-ok; idle = upto-idle closed ys at₀ kept₀ end₀ (t .i) (t .j) (t .l) v (t .known) within e stays-on; known = upto-next closed ys at₀ kept₀ end₀ (t .i) (t .j) (t .l) v (t .known) within e lt stays-on }) (omega arith))))))
         (λ over. jumps ! $ exec ! C Λ En body.t-5 (atRet En Post) $ forget ! 14 refl $ ended (t .i) (t .j) (t .l) (t .w) (t .w-ok) (t .known) (upto-stop closed ys at₀ kept₀ end₀ (t .i) (t .j) (t .l) (t .w) (t .known) (t .idle) (nltb→le (t .i) end₀ over)))
 
     looped : Sq W (At begin) (runs C Λ En body.t-4 (atRet En Post))
-    looped = first ! $ blocks ! $ loops ! 𝓣 Nearer Nearer-wf At turns begin
+    looped = first ! $ blocks ! $ loops ! 𝓣 (Falls left) (falls-wf left) At turns begin
 
   walk : (𝓣 : Tables 𝓤 H) → Triple 𝓤 (𝓣 .C #pruning·judge) (Judge 𝓤 H A mem run) → ent 𝓤 (onEntry 𝓤 H A f.signature (κ₀, (κ₁, tt)) (q₀, (q₁, tt)) a at) (WpFn 𝓤 H (𝓣 .C) (𝓣 .Λ) code.function (s₀ ∷ s ∷ vint w64 at₀ ∷ vint w64 kept₀ ∷ vint w64 end₀ ∷ []) Post)
   walk 𝓣 known =

@@ -5,6 +5,7 @@ use Rattle.walk.specs.ByValue.{Result, calls-by-value}
 use Rattle.walk.specs.Kind.{wordsK, vals, Good, good, val-is, typed, have, words-long}
 use Rattle.walk.specs.Lending.{Answer, calls-lending}
 use Rattle.walk.specs.Slices.{lent, counted}
+use Rattle.walk.specs.Turns.{byte, lentSlice, word}
 use mathlib.Core.Bool.{Bool, true, false, not}
 use types.Run.{returns-within}
 use lib.Dec.{eqb, eqb→eq, eqb-refl, T, T-not}
@@ -93,14 +94,8 @@ module _ {M : Type 1} (𝓤 : URA M) (H : Heap 𝓤) (A : Atoms 𝓤) (W : Given
     abbrev Λ : Loops 𝓤 H
     Λ = 𝓣 .Λ
 
-    abbrev word : Ty
-    word = tyInt w64
-
-    abbrev byte : Ty
-    byte = tyInt w8
-
     abbrev slice : Ty
-    slice = sliceTy (tyRef (named 0) mut (pointee (R .written)))
+    slice = lentSlice (named 0) R
 
     abbrev slice₁ : Ty
     slice₁ = sliceTy (tyRef (named 1) mut (pointee (u32 .written)))
