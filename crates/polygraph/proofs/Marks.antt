@@ -13,10 +13,12 @@ use lib.ListN.{length, getD, set, replicate, length-set, List·getD-eq-default}
 use lib.Seq.{getD-set-same, getD-set-other, ext-getD}
 use borrow.Author.Tests.{lt-ltb, le-ltb}
 use Rattle.model.specs.Lists.{any, fold, upTo, bit, wordOf, All}
-use Rattle.model.specs.History.{Operation}
+use Rattle.model.specs.History.{Operation, operationsOf}
+use Rattle.model.specs.Log.{transactionsIn, countAt, historyOf}
 use Rattle.model.proofs.Basics.{same?, decide, true-eq, false-eq, eq-eqb, ne-eqb, iff-eq, clash, eqb-comm}
 use Rattle.model.proofs.Words.{length-upTo, getD-upTo, word-lt}
 use Rattle.model.proofs.Masks.{bit-or, bit-one, bit-none, same-bits}
+use Rattle.model.proofs.Loaded.{operationOf, operations-at}
 use Rattle.model.proofs.Loops.{map-snoc, fold-snoc}
 use Rattle.graph.specs.Masks.{putIf}
 use Rattle.polygraph.specs.Tables.{markStep}
@@ -37,6 +39,12 @@ module _ (index : Operation → ℕ) (test : Operation → Bool) (t : ℕ) (f : 
       ∙ sym (fold-snoc step w (map f (upTo m)) (f m))
       ∙ ap (fold step w) (sym (map-snoc f (upTo m) m))
       ∙ ap (λ n. fold step w (map f (upTo n))) (sym (add-one m))
+
+-- all operations of t
+pub marks-end : (index : Operation → ℕ) (test : Operation → Bool) (b : List ℕ) (t : ℕ) (w out : List ℕ) (m : ℕ) → t < transactionsIn b → m ≡ countAt b t
+    → out ≡ fold (markStep index test t) w (map (operationOf b t) (upTo m)) → out ≡ fold (markStep index test t) w (operationsOf (historyOf b) t)
+marks-end index test b t w out m l e p =
+    p ∙ ap (λ n. fold (markStep index test t) w (map (operationOf b t) (upTo n))) e ∙ ap (fold (markStep index test t) w) (sym (operations-at b t l))
 
 -- ---- the bits
 
