@@ -17,11 +17,40 @@ struct Replay {
 
 // 0, 1, 2 and on.
 pub fn ascending() -> [u8; 32] {
-    let mut out = [0u8; 32];
-    for i in 0..32u8 {
-        out[i as usize] = i;
-    }
-    out
+    [
+        0,
+        1,
+        2,
+        3,
+        4,
+        5,
+        6,
+        7,
+        8,
+        9,
+        10,
+        11,
+        12,
+        13,
+        14,
+        15,
+        16,
+        17,
+        18,
+        19,
+        20,
+        21,
+        22,
+        23,
+        24,
+        25,
+        26,
+        27,
+        28,
+        29,
+        30,
+        31,
+    ]
 }
 
 // The order with two places exchanged.
