@@ -3,7 +3,7 @@
 -- Assumes nothing.
 use mathlib.Core.Path.{subst}
 use Prim.Native.Nat.{ℕ, _<_, _^_}
-use mathlib.Core.List.{List, [], _∷_, map-id}
+use mathlib.Core.List.{List, [], _∷_, map, map-id}
 use mir.Val.{Val}
 use denote.Laws.{Is}
 use denote.Struct.Laws as LL
@@ -25,18 +25,21 @@ encodingK = of-declared E.the-type E′.the-laws E′.lowers E′.the-plain E′
 abbrev pub planningK : Kind
 planningK = of-declared P.the-type P′.the-laws P′.lowers P′.the-plain P′.the-copy
 
-pub record PlanningOk (w : Planning) : Type 0 where
-  pub number-fits : w .number < 2 ^ 8
-  pub words-ok : Good (wordsK 3073) (w .words)
-  pub rows-ok : Good (wordsK 32) (w .rows)
-  pub count-fits : w .count < 2 ^ 64
+-- what holds of a plan, with the number beside it, that a call returned
+pub record PlanOk (number : ℕ) (words rows : List ℕ) (count : ℕ) : Type 0 where
+  pub number-fits : number < 2 ^ 8
+  pub words-ok : Good (wordsK 3073) words
+  pub rows-ok : Good (wordsK 32) rows
+  pub count-fits : count < 2 ^ 64
+
+-- from the fields, as a struct has them
+pub plan-ok : (number : ℕ) (words rows : List ℕ) (count : ℕ) → number < 2 ^ 8 → Good (wordsK 3073) (map (λ (x : ℕ). x) words) → Good (wordsK 32) (map (λ (x : ℕ). x) rows) → count < 2 ^ 64 → PlanOk number words rows count
+plan-ok number words rows count n w r c =
+    record { number-fits = n; words-ok = subst (Good (wordsK 3073)) (map-id words) w; rows-ok = subst (Good (wordsK 32)) (map-id rows) r; count-fits = c }
+
+abbrev pub PlanningOk : Planning → Type 0
+PlanningOk w = PlanOk (w .number) (w .words) (w .rows) (w .count)
 
 pub of-planning : (w : Planning) (v : Val) → Is (planningK .row) w (v ∷ []) → PlanningOk w
 of-planning w v is =
-    let x = LL.owed P.the-type P′.the-laws w (v ∷ []) is in
-    record {
-      number-fits = x .0 .1;
-      words-ok = subst (Good (wordsK 3073)) (map-id (w .words)) (x .1 .0);
-      rows-ok = subst (Good (wordsK 32)) (map-id (w .rows)) (x .1 .1 .0);
-      count-fits = x .1 .1 .1 .0 .1;
-    }
+    let x = LL.owed P.the-type P′.the-laws w (v ∷ []) is in plan-ok (w .number) (w .words) (w .rows) (w .count) (x .0 .1) (x .1 .0) (x .1 .1 .0) (x .1 .1 .1 .0 .1)

@@ -2,21 +2,18 @@
 --     preparedK, decisionK.        of-prepared      what a preparation that a call returned holds is good
 --     prepare-says, answered-says      `prepare` and `answered`, by value
 -- Assumes `Given`, and that the callee meets its contract.
-use mathlib.Core.Path.{subst}
-use mathlib.Core.List.{map-id}
-use Rattle.walk.specs.Prelude.{_≡_, refl, ℕ, _<_, _≤_, _^_, [], _∷_, URA, Val, SProp, ent, emp, exE, snd∗, Memory, Routine, Heap, Calls, Atoms, sem, Fun, fact, Given, _$_, _∵_, !, qed, join, fjoin, frame, done, FmC, nothing, says, tripleOf, Contract, Triple, ensured, lasts}
+use Rattle.walk.specs.Prelude.{_≡_, refl, ℕ, _<_, _≤_, _^_, List, [], _∷_, URA, Val, SProp, ent, emp, exE, snd∗, Memory, Routine, Heap, Calls, Atoms, sem, Fun, fact, Given, _$_, _∵_, !, qed, join, fjoin, frame, done, FmC, nothing, says, tripleOf, Contract, Triple, ensured, lasts}
 use Rattle.walk.specs.ByValue.{Says, Result, plainly, result-says}
 use Rattle.walk.specs.Kind.{Kind, of-declared, u8K, usizeK, wordsK, vals, Good, have}
 use denote.Laws.{Is}
 use denote.Struct.Laws as LL
-use lib.ListN.{length}
 use mathlib.Core.Bool.{false}
-use Rattle.model.specs.Polygraph.{constraints}
+use Rattle.decision.specs.Answer.{PlannedIn}
 use Rattle.checker.specs.declared.Case.{Case}
 use Rattle.checker.specs.declared.deciding.Prepared.{Prepared}
 use Rattle.checker.specs.Cases.{historyIn, stageOf, isFresh}
 use Rattle.checker.specs.Preparing.{PreparedFor, answering}
-use Rattle.checker.proofs.Data.{caseK}
+use Rattle.checker.proofs.Data.{caseK, PlanOk, plan-ok}
 use Rattle.checker.proofs.Decision as D
 use Rattle.checker.proofs.Decision.Laws as D′
 use Rattle.checker.proofs.deciding.Prepared as P
@@ -32,27 +29,14 @@ decisionK = of-declared D.the-type D′.the-laws D′.lowers D′.the-plain D′
 abbrev pub preparedK : Kind
 preparedK = of-declared P.the-type P′.the-laws P′.lowers P′.the-plain P′.the-copy
 
-pub record PreparedOk (w : Prepared) : Type 0 where
-  pub number-fits : w .number < 2 ^ 8
-  pub words-ok : Good (wordsK 3073) (w .words)
-  pub rows-ok : Good (wordsK 32) (w .rows)
-  pub count-fits : w .count < 2 ^ 64
-  pub pruning-fits : w .pruning < 2 ^ 8
-
-pub of-prepared : (w : Prepared) (v : Val) → Is (preparedK .row) w (v ∷ []) → PreparedOk w
+pub of-prepared : (w : Prepared) (v : Val) → Is (preparedK .row) w (v ∷ []) → PlanOk (w .number) (w .words) (w .rows) (w .count) × (w .pruning < 2 ^ 8)
 of-prepared w v is =
     let x = LL.owed P.the-type P′.the-laws w (v ∷ []) is in
-    record {
-      number-fits = x .0 .1;
-      words-ok = subst (Good (wordsK 3073)) (map-id (w .words)) (x .1 .0);
-      rows-ok = subst (Good (wordsK 32)) (map-id (w .rows)) (x .1 .1 .0);
-      count-fits = x .1 .1 .1 .0 .1;
-      pruning-fits = x .1 .1 .1 .1 .0 .1;
-    }
+    (plan-ok (w .number) (w .words) (w .rows) (w .count) (x .0 .1) (x .1 .0) (x .1 .1 .0) (x .1 .1 .1 .0 .1), x .1 .1 .1 .1 .0 .1)
 
 -- what `answered` asks
-abbrev pub Allowed : Case → ℕ → ℕ → Type 0
-Allowed c number e = number ≡ 0 → (isFresh (stageOf c) ≡ false) × (e < 3) × (length (constraints (historyIn c) e) ≤ 4096)
+abbrev pub Allowed : Case → ℕ → List ℕ → List ℕ → Type 0
+Allowed c number words rows = number ≡ 0 → (isFresh (stageOf c) ≡ false) × PlannedIn (historyIn c) words rows
 
 module _ {M : Type 1} (𝓤 : URA M) (H : Heap 𝓤) (A : Atoms 𝓤) (mem : Memory → SProp 𝓤) (run : Routine → Fun 𝓤) where
   abbrev pub PrepareC : Contract 𝓤
@@ -70,10 +54,10 @@ module _ {M : Type 1} (𝓤 : URA M) (H : Heap 𝓤) (A : Atoms 𝓤) (mem : Mem
         (Result (preparedK .row) (PreparedFor c e pruning places)) (result-says 𝓤 H A W (preparedK .row) (ensured 𝓤 H A prepare.ended (prepare.clauses 𝓤 H A mem run) tt (c, (e, (pruning, (places, tt)))) tt) (PreparedFor c e pruning places)
         (λ w. exE 𝓤 _ (λ ws. snd∗ 𝓤 (sem 𝓤 H A (lasts prepare.ended tt (c, (e, (pruning, (places, tt)))) ws)) (fact 𝓤 (PreparedFor c e pruning places w)))))
 
-    pub answered-says : Triple 𝓤 (C #checker·deciding·answered) AnsweredC → (c : Case) (number e left : ℕ) → Good caseK c → number < 2 ^ 8 → e < 2 ^ 8 → left < 2 ^ 64 → Allowed c number e
-        → ent 𝓤 (emp 𝓤) (C #checker·deciding·answered (caseK .val c ∷ u8K .val number ∷ u8K .val e ∷ usizeK .val left ∷ []) (Says 𝓤 H (Result (decisionK .row) (λ r. r ≡ answering c number left))))
-    answered-says known c number e left c-ok n-fits e-fits l-fits allowed =
-        plainly 𝓤 H (C #checker·deciding·answered) (fm #checker·deciding·answered) AnsweredC known ((tt, tt, tt, (c, (number, (e, (left, tt)))), (vals caseK c, (vals u8K number, (vals u8K e, (vals usizeK left, tt))))), tt)
-        (qed W [] ∵ says ! allowed $ nothing ! $ have ! usizeK left _ (refl, l-fits) $ fjoin ! $ have ! u8K e _ (refl, e-fits) $ fjoin ! $ have ! u8K number _ (refl, n-fits) $ fjoin ! $ have ! caseK c _ c-ok $ fjoin ! $ nothing ! $ join ! $ done !)
-        (Result (decisionK .row) (λ r. r ≡ answering c number left)) (result-says 𝓤 H A W (decisionK .row) (ensured 𝓤 H A answered.ended (answered.clauses 𝓤 H A mem run) tt (c, (number, (e, (left, tt)))) tt) (λ r. r ≡ answering c number left)
-        (λ w. exE 𝓤 _ (λ ws. snd∗ 𝓤 (sem 𝓤 H A (lasts answered.ended tt (c, (number, (e, (left, tt)))) ws)) (fact 𝓤 (w ≡ answering c number left)))))
+    pub answered-says : Triple 𝓤 (C #checker·deciding·answered) AnsweredC → (c : Case) (number : ℕ) (words rows : List ℕ) (left : ℕ) → Good caseK c → number < 2 ^ 8 → Good (wordsK 3073) words → Good (wordsK 32) rows → left < 2 ^ 64 → Allowed c number words rows
+        → ent 𝓤 (emp 𝓤) (C #checker·deciding·answered (caseK .val c ∷ u8K .val number ∷ wordsK 3073 .val words ∷ wordsK 32 .val rows ∷ usizeK .val left ∷ []) (Says 𝓤 H (Result (decisionK .row) (λ r. r ≡ answering c number left))))
+    answered-says known c number words rows left c-ok n-fits words-ok rows-ok l-fits allowed =
+        plainly 𝓤 H (C #checker·deciding·answered) (fm #checker·deciding·answered) AnsweredC known ((tt, tt, tt, (c, (number, (words, (rows, (left, tt))))), (vals caseK c, (vals u8K number, (vals (wordsK 3073) words, (vals (wordsK 32) rows, (vals usizeK left, tt)))))), tt)
+        (qed W [] ∵ says ! allowed $ nothing ! $ have ! usizeK left _ (refl, l-fits) $ fjoin ! $ have ! (wordsK 32) rows _ rows-ok $ fjoin ! $ have ! (wordsK 3073) words _ words-ok $ fjoin ! $ have ! u8K number _ (refl, n-fits) $ fjoin ! $ have ! caseK c _ c-ok $ fjoin ! $ nothing ! $ join ! $ done !)
+        (Result (decisionK .row) (λ r. r ≡ answering c number left)) (result-says 𝓤 H A W (decisionK .row) (ensured 𝓤 H A answered.ended (answered.clauses 𝓤 H A mem run) tt (c, (number, (words, (rows, (left, tt))))) tt) (λ r. r ≡ answering c number left)
+        (λ w. exE 𝓤 _ (λ ws. snd∗ 𝓤 (sem 𝓤 H A (lasts answered.ended tt (c, (number, (words, (rows, (left, tt))))) ws)) (fact 𝓤 (w ≡ answering c number left)))))

@@ -29,7 +29,7 @@ use Rattle.checker.specs.declared.Stage.the-variants.{Ordered, NoOrder}
 use Rattle.checker.specs.declared.Verdict.{Verdict}
 use Rattle.checker.specs.declared.Verdict.the-variants.{Order, Without}
 use Rattle.search.specs.declared.order.Found.{Found}
-use Rattle.decision.specs.Answer.{isSome, firstAnswer}
+use Rattle.decision.specs.Answer.{PlannedIn, isSome, firstAnswer}
 use mathlib.Core.Option.{Option, none, some}
 use Rattle.model.specs.Lent.{orderNumbers}
 use Rattle.checker.specs.Encodings.{settingRefusal, placesRefusal, encodeRefusal, Plans}
@@ -172,7 +172,7 @@ module _ (c : Case) (number left : ℕ) (z : number ≡ 0) (f : Found) (is : f �
 
 -- ---- what is known where nothing is refused
 
-pub allowed : (c : Case) (e pruning places : ℕ) → decideRefusal c e pruning places ≡ 0
+allowed : (c : Case) (e pruning places : ℕ) → decideRefusal c e pruning places ≡ 0
     → (isFresh (stageOf c) ≡ false) × (e < 3) × (length (constraints (historyIn c) e) ≤ 4096)
 unfolding encodeRefusal placesRefusal
 allowed c e pruning places =
@@ -188,6 +188,13 @@ allowed c e pruning places =
     go false true true l p r q z = absurd (omega arith)
     go false true false l p r q z = let k = setting-zero e pruning (p tt) in (refl, omega arith, q tt)
     go false false m l p r q z = absurd (r tt z)
+
+-- the plan that was found is what the decision asks for
+pub asked : (c : Case) (e pruning places : ℕ) (p : Prepared) → PreparedFor c e pruning places p → p .number ≡ 0 → (isFresh (stageOf c) ≡ false) × PlannedIn (historyIn c) (p .words) (p .rows)
+asked c e pruning places p found z =
+    let a = allowed c e pruning places (sym (found .number-is) ∙ z) in
+    let q = found .plan z .0 in
+    (a .0, record { encoding = e; low = a .1; few = a .2; lists = q .lists; rows-are = q .rows-are })
 
 -- ---- what Decide leaves and gives
 

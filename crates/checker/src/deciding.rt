@@ -1,8 +1,6 @@
 // The parts of Decide that work on values: what is found out before anything is written, and the answer after it.
 ghost use mathlib.Core.Path.{_≡_};
-ghost use Prim.Native.Nat.{ℕ, _≤_, _<_};
-ghost use lib.ListN.{length};
-ghost use Rattle.model.specs.Polygraph.{constraints};
+ghost use Rattle.decision.specs.Answer.{PlannedIn};
 ghost use Rattle.checker.specs.Cases.{historyIn, stageOf, isFresh};
 ghost use Rattle.checker.specs.Preparing.{PreparedFor, EmptyPlan, answering};
 ghost use mathlib.Core.Bool.{false};
@@ -56,9 +54,15 @@ pub(crate) fn prepare(c: Case, encoding: u8, pruning: u8, places: usize) -> Prep
     }
 }
 
-// Decide's answer, where the list has been written and so many constraints are left.
-pub(crate) fn answered(c: Case, number: u8, encoding: u8, left: usize) -> Decision
-    requires { ⌜ (number ≡ 0 → (isFresh (stageOf c) ≡ false) × (encoding < 3) × (length (constraints (historyIn c) encoding) ≤ 4096)) ⌝ }
+// Decide's answer, where the list has been written and so many constraints are left: from the tables and the known edges before pruning, not from the list.
+pub(crate) fn answered(
+    c: Case,
+    number: u8,
+    words: [u32; 3073],
+    rows: [u32; 32],
+    left: usize,
+) -> Decision
+    requires { ⌜ (number ≡ 0 → (isFresh (stageOf c) ≡ false) × PlannedIn (historyIn c) words rows) ⌝ }
     ensures { λ r. ⌜ r ≡ answering c number left ⌝ }
 {
     if number != 0 {
@@ -71,7 +75,7 @@ pub(crate) fn answered(c: Case, number: u8, encoding: u8, left: usize) -> Decisi
     }
     let bytes = c.bytes;
     let held = c.length;
-    let f = decision::first_legal(&bytes[..held], encoding);
+    let f = decision::first_planned(&bytes[..held], &words, rows);
     let order = f.order;
     let found = f.found;
     if found {

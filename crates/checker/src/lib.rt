@@ -123,7 +123,7 @@ impl Case {
     {
         let p = deciding::prepare(self, encoding, pruning, list.len());
         let w = encoding::write(p.words, p.rows, p.count, p.pruning, list);
-        deciding::answered(self, p.number, encoding, w.left)
+        deciding::answered(self, p.number, p.words, p.rows, w.left)
     }
 
     // Writes the order's T numbers as bytes.

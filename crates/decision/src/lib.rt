@@ -7,7 +7,7 @@ ghost use Rattle.model.specs.Log.{loadNumber, historyOf};
 ghost use Rattle.model.specs.Polygraph.{constraints};
 ghost use Rattle.listing.specs.Candidates.{listBy};
 ghost use Rattle.decision.specs.Words.{withWords, WordsOf};
-ghost use Rattle.decision.specs.Answer.{firstAnswer};
+ghost use Rattle.decision.specs.Answer.{PlannedIn, firstAnswer};
 use model::Constraint;
 use search::order::Found;
 
@@ -43,16 +43,25 @@ fn words(tables: &[u32; 3073], out: &mut [u32; 16384]) -> usize
     n
 }
 
+// The first legal order of a log whose constraints the tables list, beside its known edges in the same encoding; or that there is none: 32 numbers, 0
+// behind the order.
+pub fn first_planned(log: &[u8], tables: &[u32; 3073], rows: [u32; 32]) -> Found
+    requires { ⌜ (loadNumber (now log) ≡ 0) × PlannedIn (historyOf (now log)) (now tables) rows ⌝ }
+    ensures { λ r. ⌜ r ≡ firstAnswer (historyOf (now (log .entry))) ⌝ }
+{
+    let n = log::transactions(log);
+    let mut out = [0u32; 16384];
+    let count = words(tables, &mut out);
+    search::order::first_order(rows, &out, count, n)
+}
+
 // The first legal order of a log, or that there is none: 32 numbers, 0 behind the order. The encoding decides how it is found, not what.
 pub fn first_legal(log: &[u8], encoding: u8) -> Found
     requires { ⌜ (loadNumber (now log) ≡ 0) × (encoding < 3) × (length (constraints (historyOf (now log)) encoding) ≤ 4096) ⌝ }
     ensures { λ r. ⌜ r ≡ firstAnswer (historyOf (now (log .entry))) ⌝ }
 {
-    let n = log::transactions(log);
     let plan = encoding::prepare(log, encoding);
     let rows = plan.rows;
     let listed = plan.words;
-    let mut out = [0u32; 16384];
-    let count = words(&listed, &mut out);
-    search::order::first_order(rows, &out, count, n)
+    first_planned(log, &listed, rows)
 }

@@ -5,7 +5,6 @@ use Rattle.walk.specs.ByValue.{Result, calls-by-value}
 use Rattle.walk.specs.Kind.{vals, Good, good, val-is, typed, have}
 use Rattle.walk.specs.Lending.{Answer, calls-lending}
 use Rattle.walk.specs.Slices.{lent, counted}
-use mathlib.Core.Path.{sym, _∙_}
 use lib.ListN.{length}
 use Rattle.model.specs.declared.Constraint.{Constraint}
 use Rattle.graph.proofs.Constraints.{R}
@@ -24,8 +23,8 @@ use Rattle.checker.proofs.Decision.Laws as D′
 use Rattle.checker.proofs.deciding.Prepared.Laws as P′
 use Rattle.checker.proofs.Data.{caseK}
 use Rattle.checker.proofs.Callees.{Writes, WriteC, write-left}
-use Rattle.checker.proofs.Lending.{decisionK, preparedK, PreparedOk, of-prepared, PrepareC, AnsweredC, prepare-says, answered-says}
-use Rattle.checker.proofs.Preparing.{allowed, decides}
+use Rattle.checker.proofs.Lending.{decisionK, preparedK, of-prepared, PrepareC, AnsweredC, prepare-says, answered-says}
+use Rattle.checker.proofs.Preparing.{asked, decides}
 use Rattle.checker.proofs.deciding.prepare.Symbol as prepare-def
 use Rattle.checker.proofs.deciding.prepare.Symbol.{name as #checker·deciding·prepare}
 use Rattle.checker.proofs.deciding.prepare.Met as prepare-thm
@@ -84,20 +83,20 @@ module _ {M : Type 1} (𝓤 : URA M) (H : Heap 𝓤) (A : Atoms 𝓤) (W : Given
       assigns ! (of-opd ! (load ! (from ! (fld ! refl (stop !))) (look-in ! 12 (sub ! 1 refl (whole !))))) (from ! (stop !)) (init ! 6 refl (tt, record { fits = room .0 })) $
       calls-by-value ! (fmOf 𝓤 H (W .laws) 𝓣) (Result (preparedK .row) (PreparedFor c e pruning (length ys))) (prepare-says 𝓤 H A mem run W (𝓣 .C) (fmOf 𝓤 H (W .laws) 𝓣) (known .prepare) c e pruning (length ys) c-ok e-fits p-fits (room .0))
       (and-then ! (load ! (from ! (stop !)) (look ! 18 refl)) (and-then ! (load ! (from ! (stop !)) (look ! 16 refl)) (and-then ! (load ! (from ! (stop !)) (look ! 14 refl)) (and-then ! (load ! (from ! (stop !)) (look ! 6 refl)) (no-more !))))) (λ u gave.
-      let p : Prepared = gave .0 in let ok : PreparedOk p = of-prepared p u (gave .1 .1) in let found : PreparedFor c e pruning (length ys) p = gave .1 .0 in
+      let p : Prepared = gave .0 in let ok = of-prepared p u (gave .1 .1) .0 in let found : PreparedFor c e pruning (length ys) p = gave .1 .0 in
       land ! (from ! (stop !)) (init ! 10 refl (typed preparedK 𝓤 H A W p u (gave .1 .1) .0)) $ rewrite ! 10 (λ (w : Val). ‵ (fat fullShare P′.mir l₅ 0 w)) (val-is preparedK p u (gave .1 .1)) refl $
       -- w = write(p.words, p.rows, p.count, p.pruning, list)
       assigns ! (addr ! (from ! (fld ! refl (hop ! (look-in ! 12 (sub ! 0 refl (whole !))) (stop !))))) (from ! (stop !)) (init ! 4 refl (tt, tt)) $
       assigns ! (agg ! (and-then ! (load ! (from ! (stop !)) (look ! 4 refl)) (and-then ! (load ! (from ! (fld ! refl (stop !))) (look-in ! 12 (sub ! 1 refl (whole !)))) (no-more !)))) (from ! (stop !)) (init ! 2 refl (tt, (tt, (record { fits = room .0 }, tt)))) $
       calls-lending ! (fmOf 𝓤 H (W .laws) 𝓣) R (named 0) (named 0) κ q γ b o (length ys) ys refl room (Answer (prunedK .row) (Writes (p .words) (p .rows) (p .count) (p .pruning) ys))
-      (write-left 𝓤 H A mem run W (𝓣 .C) (fmOf 𝓤 H (W .laws) 𝓣) (known .write) b o (length ys) ys refl (p .words) (p .rows) (p .count) (p .pruning) (ok .words-ok) (ok .rows-ok) (ok .count-fits) (ok .pruning-fits) (found .ready))
+      (write-left 𝓤 H A mem run W (𝓣 .C) (fmOf 𝓤 H (W .laws) 𝓣) (known .write) b o (length ys) ys refl (p .words) (p .rows) (p .count) (p .pruning) (ok .words-ok) (ok .rows-ok) (ok .count-fits) (of-prepared p u (gave .1 .1) .1) (found .ready))
       (λ i j. and-then ! (load ! (from ! (fld ! refl (stop !))) (look-in ! 10 (sub ! 1 refl (whole !)))) (and-then ! (load ! (from ! (fld ! refl (stop !))) (look-in ! 10 (sub ! 2 refl (whole !)))) (and-then ! (load ! (from ! (fld ! refl (stop !))) (look-in ! 10 (sub ! 3 refl (whole !)))) (and-then ! (load ! (from ! (fld ! refl (stop !))) (look-in ! 10 (sub ! 4 refl (whole !)))) (and-then ! (load ! (from ! (stop !)) (look ! 2 refl)) (no-more !)))))) (λ u₁ zs gave₁ len.
       let r : Pruned = gave₁ .0 in let r-parts = of-pruned r u₁ (gave₁ .1 .1) in
       land ! (from ! (stop !)) (init ! 8 refl (typed prunedK 𝓤 H A W r u₁ (gave₁ .1 .1) .0)) $ rewrite ! 8 (λ (w : Val). ‵ (fat fullShare L′.mir l₆ 0 w)) (val-is prunedK r u₁ (gave₁ .1 .1)) refl $
-      -- answered(self, p.number, encoding, w.left)
+      -- answered(self, p.number, p.words, p.rows, w.left)
       calls-by-value ! (fmOf 𝓤 H (W .laws) 𝓣) (Result (decisionK .row) (λ x. x ≡ answering c (p .number) (r .left)))
-      (answered-says 𝓤 H A mem run W (𝓣 .C) (fmOf 𝓤 H (W .laws) 𝓣) (known .answered) c (p .number) e (r .left) c-ok (ok .number-fits) e-fits (r-parts .1) (λ z. allowed c e pruning (length ys) (sym (found .number-is) ∙ z)))
-      (and-then ! (load ! (from ! (stop !)) (look ! 18 refl)) (and-then ! (load ! (from ! (fld ! refl (stop !))) (look-in ! 10 (sub ! 0 refl (whole !)))) (and-then ! (load ! (from ! (stop !)) (look ! 16 refl)) (and-then ! (load ! (from ! (fld ! refl (stop !))) (look-in ! 8 (sub ! 1 refl (whole !)))) (no-more !))))) (λ u₂ gave₂.
+      (answered-says 𝓤 H A mem run W (𝓣 .C) (fmOf 𝓤 H (W .laws) 𝓣) (known .answered) c (p .number) (p .words) (p .rows) (r .left) c-ok (ok .number-fits) (ok .words-ok) (ok .rows-ok) (r-parts .1) (asked c e pruning (length ys) p found))
+      (and-then ! (load ! (from ! (stop !)) (look ! 18 refl)) (and-then ! (load ! (from ! (fld ! refl (stop !))) (look-in ! 10 (sub ! 0 refl (whole !)))) (and-then ! (load ! (from ! (fld ! refl (stop !))) (look-in ! 10 (sub ! 1 refl (whole !)))) (and-then ! (load ! (from ! (fld ! refl (stop !))) (look-in ! 10 (sub ! 2 refl (whole !)))) (and-then ! (load ! (from ! (fld ! refl (stop !))) (look-in ! 8 (sub ! 1 refl (whole !)))) (no-more !)))))) (λ u₂ gave₂.
       let x : Decision = gave₂ .0 in let x-ok : Good decisionK x = good decisionK x u₂ (gave₂ .1 .1) in
       land ! (from ! (stop !)) (init ! 20 refl (typed decisionK 𝓤 H A W x u₂ (gave₂ .1 .1) .0)) $ rewrite ! 20 (λ (w : Val). ‵ (fat fullShare D′.mir l₀ 0 w)) (val-is decisionK x u₂ (gave₂ .1 .1)) refl $
       returns ! (look ! 20 refl) $ forget ! 2 refl $ forget ! 4 refl $ forget ! 6 refl $ forget ! 8 refl $ forget ! 10 refl $ forget ! 12 refl $ forget ! 14 refl $ forget ! 16 refl $ forget ! 18 refl $ forget ! 20 refl $

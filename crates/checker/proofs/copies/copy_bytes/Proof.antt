@@ -1,8 +1,7 @@
 -- `checker::copies::copy_bytes` meets its contract. Assumes nothing.
-use Rattle.checker.proofs.Copying.{copied-next, copied-long}
+use Rattle.checker.proofs.Copying.{copies-long, copies-into, copies-next, copies-end}
 use Rattle.checker.specs.Cases.{copied}
-use lib.ListN.{length, set, getD}
-use mathlib.Core.Path.{_≡_, refl, ap, _∙_}
+use mathlib.Core.Path.{_≡_, refl}
 use borrow.Author.Needs.{needs}
 use native.Mathlib.Omega.{arith}
 use Prim.Native.Nat.{_≤_, _-_}
@@ -23,9 +22,7 @@ shared-slice-read-out c = search needs
 
 slice-write-out : tie.Need-slice-write-out Inv-loop μ-loop
 slice-write-out c =
-    let s = c .before .before .before in
-    let l = c .before .before .loop in
-    omega (arith, ap length (l .inv .1), copied-long (s .args .from .now) (s .args .out .now) (l .i) (omega arith) (omega arith))
+    let s = c .before .before .before in let l = c .before .before .loop in copies-into (s .args .from .now) (s .args .out .now) (s .args .n) (s .pre .0) (s .pre .1) (l .i) (l .out) (l .inv .1) (omega arith)
 
 add-i : tie.Need-add-i Inv-loop μ-loop
 add-i c = search needs
@@ -35,21 +32,15 @@ loop-less c = search needs
 
 loop-again : tie.Need-loop-again Inv-loop μ-loop
 loop-again c =
-    let s = c .before .before .before in
-    let l = c .before .before .loop in
-    (omega arith, ap (λ x. set x (l .i) (getD (s .args .from .now) (l .i) 0)) (l .inv .1) ∙ copied-next (s .args .from .now) (s .args .out .now) (l .i) (omega arith) (omega arith))
+    let s = c .before .before .before in let l = c .before .before .loop in (omega arith, copies-next (s .args .from .now) (s .args .out .now) (s .args .n) (s .pre .0) (s .pre .1) (l .i) (l .out) (l .inv .1) (omega arith))
 
 same-length : tie.Need-same-length Inv-loop μ-loop
 same-length c =
-    let s = c .before .before in
-    let l = c .before .loop in
-    ap length (l .inv .1) ∙ copied-long (s .args .from .now) (s .args .out .now) (l .i) (omega arith) (omega arith)
+    let s = c .before .before in let l = c .before .loop in copies-long (s .args .from .now) (s .args .out .now) (s .args .n) (s .pre .0) (s .pre .1) (l .i) (l .out) (l .inv .1) (omega arith)
 
 returns : tie.Need-returns Inv-loop μ-loop
 returns c =
-    let l = c .before .loop in
-    let end : l .i ≡ c .before .before .args .n = omega arith in
-    l .inv .1 ∙ ap (λ k. copied k (c .before .before .args .from .now) (c .before .before .args .out .now)) end
+    let s = c .before .before in let l = c .before .loop in copies-end (s .args .from .now) (s .args .out .now) (s .args .n) (s .pre .0) (s .pre .1) (l .i) (l .out) (l .inv .1) (omega arith)
 
 pub copy-bytes-spec : {M : Type 1} → statement M
 copy-bytes-spec =
