@@ -43,7 +43,7 @@ module _ (w : List ℕ) (n : ℕ) (c : Constraint) where
   abbrev three : List ℕ
   three = set two (4 * n + 2) (c .fromB)
 
-  put-long : length (withWords w n c) ≡ length w
+  pub put-long : length (withWords w n c) ≡ length w
   unfolding withWords
   put-long = simp length-set
 
@@ -54,7 +54,7 @@ module _ (w : List ℕ) (n : ℕ) (c : Constraint) where
       getD-set-other three (4 * n + 3) i (c .toB) 0 (λ e. omega arith) ∙ getD-set-other two (4 * n + 2) i (c .fromB) 0 (λ e. omega arith)
       ∙ getD-set-other one (4 * n + 1) i (c .toA) 0 (λ e. omega arith) ∙ getD-set-other w (4 * n) i (c .fromA) 0 (λ e. omega arith)
 
-  put-new : 4 * n + 3 < length w → conAt (withWords w n c) n ≡ c
+  pub put-new : 4 * n + 3 < length w → conAt (withWords w n c) n ≡ c
   unfolding withWords
   put-new l =
       let a : length one ≡ length w = length-set w (4 * n) (c .fromA) in
@@ -68,7 +68,7 @@ module _ (w : List ℕ) (n : ℕ) (c : Constraint) where
       (getD-set-other three (4 * n + 3) (4 * n + 2) (c .toB) 0 (λ e. omega arith) ∙ getD-set-same two (4 * n + 2) (c .fromB) 0 (omega arith))
       (getD-set-same three (4 * n + 3) (c .toB) 0 (omega arith))
 
-  put-same : (i : ℕ) → i < n → conAt (withWords w n c) i ≡ conAt w i
+  pub put-same : (i : ℕ) → i < n → conAt (withWords w n c) i ≡ conAt w i
   put-same i l =
       con-is (conAt w i) _ _ _ _ (put-old (4 * i) (omega arith)) (put-old (4 * i + 1) (omega arith)) (put-old (4 * i + 2) (omega arith)) (put-old (4 * i + 3) (omega arith))
 

@@ -27,7 +27,8 @@ use Rattle.checker.proofs.Case.decide as decide
 use Rattle.checker.proofs.Case.decide.Symbol.{name as #checker·Case·decide}
 use Rattle.checker.proofs.Case.encode as encode
 use Rattle.checker.proofs.Case.encode.Symbol.{name as #checker·Case·encode}
-use Rattle.lender.specs.Packing.{wordsAt, packed, shownOf}
+use Rattle.decision.specs.Words.{withWords}
+use Rattle.lender.specs.Packing.{packed, shownOf}
 use Rattle.lender.proofs.put as put
 use Rattle.lender.proofs.put.Symbol.{name as #lender·put}
 use Rattle.lender.proofs.pack as pack
@@ -61,14 +62,14 @@ module _ {M : Type 1} (𝓤 : URA M) (H : Heap 𝓤) (A : Atoms 𝓤) (mem : Mem
   module _ (W : Given 𝓤 H A) (C : Calls 𝓤 H) (fm : FmC 𝓤 H (W .laws) C) where
     pub put-left : Triple 𝓤 (C #lender·put) PutC → (b o m : ℕ) (ws : List ℕ) → length ws ≡ m → (c : Constraint) (i : ℕ) → Good conK c → i < 2 ^ 64 → 4 * i + 4 ≤ length ws
         → (ν : ℕ) (δ : GName) → ent 𝓤 (sep 𝓤 (A .lft (ν ∷ []) fullShare) (sem 𝓤 H A (MutSlice (named 0) (ν ∷ []) u32 .own (lent b o δ ws) (counted b o m ∷ []))))
-        (C #lender·put (conK .val c ∷ vint w64 i ∷ counted b o m ∷ []) (Left 𝓤 H A u32 m (Answer unit (λ _ vs. vs ≡ wordsAt i c ws)) ν δ))
+        (C #lender·put (conK .val c ∷ vint w64 i ∷ counted b o m ∷ []) (Left 𝓤 H A u32 m (Answer unit (λ _ vs. vs ≡ withWords ws i c)) ν δ))
     put-left known b o m ws e-ws c i c-ok i-fits within ν δ =
         through 𝓤 H A (C #lender·put) (fm #lender·put) PutC known (((ν ∷ [], tt), (fullShare, tt), tt, (c, (i, (lent b o δ ws, tt))), (vals conK c, (vint w64 i ∷ [], (counted b o m ∷ [], tt)))), tt)
         (qed W (‵ (flft (ν ∷ []) fullShare) ∷ ‵ (MutSlice (named 0) (ν ∷ []) u32 .own (lent b o δ ws) (counted b o m ∷ [])) ∷ []) ∵ says ! within $ nothing ! $ move ! (1 ∷ 0 ∷ []) $ join ! $ frame ! $
         nothing ! $ move ! (1 ∷ 0 ∷ []) $ fjoin ! $ have ! usizeK i _ (refl, i-fits) $ fjoin ! $ have ! conK c _ c-ok $ fjoin ! $ done !)
-        (Left 𝓤 H A u32 m (Answer unit (λ _ vs. vs ≡ wordsAt i c ws)) ν δ) (result-left 𝓤 H A W u32 unit m ν δ (ensured 𝓤 H A put.ended (put.clauses 𝓤 H A mem run) (ν ∷ [], tt) (c, (i, (lent b o δ ws, tt))) tt) (λ _ vs. vs ≡ wordsAt i c ws)
-        (λ _. qed W (some (λ (us : Unit {0} × (Unit {0} × (List ℕ × Unit {0}))). ‵ (lasts put.ended (ν ∷ [], tt) (c, (i, (lent b o δ ws, tt))) us) ⊛ raw (fact 𝓤 (us .1 .1 .0 ≡ wordsAt i c ws))) ∷ []) ∵ pick ! (λ us. split ! $ move ! (1 ∷ []) $ heard ! (us .1 .1 .0 ≡ wordsAt i c ws) (λ e.
-        fsplit ! $ drop ! $ fsplit ! $ drop ! $ fsplit ! $ fsplit ! $ move ! (1 ∷ []) $ feqL ! (λ len. show ! (λ (vs : List ℕ). guard 𝓤 ((vs ≡ wordsAt i c ws) × (length vs ≡ m)) (sem 𝓤 H A (finally u32 δ vs))) (us .1 .1 .0) $ check ! (e, len ∙ e-ws) $ keep ! (0 ∷ []) $ done !)))))
+        (Left 𝓤 H A u32 m (Answer unit (λ _ vs. vs ≡ withWords ws i c)) ν δ) (result-left 𝓤 H A W u32 unit m ν δ (ensured 𝓤 H A put.ended (put.clauses 𝓤 H A mem run) (ν ∷ [], tt) (c, (i, (lent b o δ ws, tt))) tt) (λ _ vs. vs ≡ withWords ws i c)
+        (λ _. qed W (some (λ (us : Unit {0} × (Unit {0} × (List ℕ × Unit {0}))). ‵ (lasts put.ended (ν ∷ [], tt) (c, (i, (lent b o δ ws, tt))) us) ⊛ raw (fact 𝓤 (us .1 .1 .0 ≡ withWords ws i c))) ∷ []) ∵ pick ! (λ us. split ! $ move ! (1 ∷ []) $ heard ! (us .1 .1 .0 ≡ withWords ws i c) (λ e.
+        fsplit ! $ drop ! $ fsplit ! $ drop ! $ fsplit ! $ fsplit ! $ move ! (1 ∷ []) $ feqL ! (λ len. show ! (λ (vs : List ℕ). guard 𝓤 ((vs ≡ withWords ws i c) × (length vs ≡ m)) (sem 𝓤 H A (finally u32 δ vs))) (us .1 .1 .0) $ check ! (e, len ∙ e-ws) $ keep ! (0 ∷ []) $ done !)))))
 
     pub decide-left : Triple 𝓤 (C #checker·Case·decide) DecideC → (b o m : ℕ) (ys : List Constraint) → length ys ≡ m → (c : Case) (e pruning : ℕ) → Good caseK c → e < 2 ^ 8 → pruning < 2 ^ 8
         → (ν : ℕ) (δ : GName) → ent 𝓤 (sep 𝓤 (A .lft (ν ∷ []) fullShare) (sem 𝓤 H A (MutSlice (named 0) (ν ∷ []) R .own (lent b o δ ys) (counted b o m ∷ []))))

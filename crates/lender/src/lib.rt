@@ -5,7 +5,8 @@ ghost use Prim.Native.Nat.{_≤_, _<_, _*_, _+_};
 ghost use lib.ListN.{length, replicate};
 ghost use Rattle.checker.specs.Encodings.{encodeAnswer, encodeList, encodeRows};
 ghost use Rattle.checker.specs.Decisions.{deciding, listAfterDecide};
-ghost use Rattle.lender.specs.Packing.{wordsAt, packed, shownOf};
+ghost use Rattle.decision.specs.Words.{withWords};
+ghost use Rattle.lender.specs.Packing.{packed, shownOf};
 use checker::Case;
 use checker::Decision;
 use checker::Encoding;
@@ -14,7 +15,7 @@ use model::Constraint;
 // One constraint as four words.
 fn put(c: Constraint, i: usize, out: &mut [u32])
     requires { ⌜ 4 * i + 4 ≤ length (now out) ⌝ }
-    ensures { λ _. ⌜ now (out .exit) ≡ wordsAt i c (now (out .entry)) ⌝ }
+    ensures { λ _. ⌜ now (out .exit) ≡ withWords (now (out .entry)) i c ⌝ }
 {
     let at = 4 * i;
     out[at] = c.fromA;

@@ -11,9 +11,10 @@ use Rattle.model.specs.declared.Constraint.{Constraint}
 use Rattle.model.specs.Lent.{noConstraint}
 use Rattle.model.proofs.Constraint.Laws as C′
 use Rattle.graph.proofs.Constraints.{conK, R, slot-is, fits}
-use Rattle.lender.specs.Packing.{wordsAt, packed}
+use Rattle.decision.specs.Words.{withWords}
+use Rattle.lender.specs.Packing.{packed}
 use Rattle.lender.proofs.Callees.{PutC, put-left}
-use Rattle.lender.proofs.Packs.{words-long, packed-next, packed-none, room-of}
+use Rattle.lender.proofs.Packs.{packed-next, packed-none, room-of}
 use Rattle.lender.proofs.put.Symbol as put-def
 use Rattle.lender.proofs.put.Symbol.{name as #lender·put}
 use Rattle.lender.proofs.put.Met as put-thm
@@ -128,14 +129,14 @@ module _ {M : Type 1} (𝓤 : URA M) (H : Heap 𝓤) (A : Atoms 𝓤) (W : Given
         assigns ! (addr ! (from ! (fld ! refl (hop ! (look-in ! 24 (sub ! 0 refl (whole !))) (stop !))))) (from ! (stop !)) (init ! 8 refl (tt, tt)) $
         assigns ! (agg ! (and-then ! (load ! (from ! (stop !)) (look ! 8 refl)) (and-then ! (load ! (from ! (fld ! refl (stop !))) (look-in ! 24 (sub ! 1 refl (whole !)))) (no-more !)))) (from ! (stop !)) (init ! 6 refl (tt, (tt, (record { fits = room₁ .0 }, tt)))) $
         move ! (4 ∷ 5 ∷ []) $
-        calls-lending ! (fmOf 𝓤 H (W .laws) 𝓣) u32 (named 1) (named 0) κ₁ q₁ γ₁ b₁ o₁ (length ws) (t .vs) (t .len) room₁ (Answer unit (λ _ us. us ≡ wordsAt (t .i) (getD ys (t .i) noConstraint) (t .vs)))
+        calls-lending ! (fmOf 𝓤 H (W .laws) 𝓣) u32 (named 1) (named 0) κ₁ q₁ γ₁ b₁ o₁ (length ws) (t .vs) (t .len) room₁ (Answer unit (λ _ us. us ≡ withWords (t .vs) (t .i) (getD ys (t .i) noConstraint)))
         (put-left 𝓤 H A mem run W C (fmOf 𝓤 H (W .laws) 𝓣) known b₁ o₁ (length ws) (t .vs) (t .len) (getD ys (t .i) noConstraint) (t .i) ok i-fits (subst (λ (k : ℕ). 4 * t .i + 4 ≤ k) (sym (t .len)) (room-of n (t .i) (length ws) within₁ lt)))
         (λ i j. and-then ! (load ! (from ! (stop !)) (look ! 20 refl)) (and-then ! (load ! (from ! (stop !)) (look ! 22 refl)) (and-then ! (load ! (from ! (stop !)) (look ! 6 refl)) (no-more !)))) (λ u us gave len.
         land ! (from ! (stop !)) (init ! 10 refl (nothing-lawful 𝓤 H A W .typed (gave .0) (u ∷ []) (gave .1 .1) .0)) $ move ! (2 ∷ 3 ∷ 4 ∷ 5 ∷ []) $
         -- i += 1
         assigns-last ! (bin ! (load ! (from ! (stop !)) (look ! 22 refl)) (lit ! tt) (record { fits = omega arith })) (from ! (stop !)) (store ! 22 refl (tt, record { fits = omega arith })) $
         forget ! 6 refl $ forget ! 8 refl $ forget ! 10 refl $ forget ! 12 refl $ forget ! 14 refl $ forget ! 16 refl $ forget ! 18 refl $ forget ! 20 refl $
-        again ! Nearer At t (record { i = t .i + 1; vs = us; upto = omega arith; len = len; is = gave .1 .0 ∙ ap (wordsAt (t .i) (getD ys (t .i) noConstraint)) (t .is) ∙ packed-next (t .i) ys ws }) (omega arith))))
+        again ! Nearer At t (record { i = t .i + 1; vs = us; upto = omega arith; len = len; is = gave .1 .0 ∙ ap (λ (w : List ℕ). withWords w (t .i) (getD ys (t .i) noConstraint)) (t .is) ∙ packed-next (t .i) ys ws }) (omega arith))))
         (λ over. jumps ! $ exec ! C Λ En body.t-3 (atRet En Post) $ closes-arg ! tt R (named 0) (length ys) ys ys refl refl room b o $
         -- [the list; its token; the words; their token; _12 at 4; _11 at 6; _10 at 8; _9 at 10; _8 at 12; _7 at 14; _6 at 16; _5 at 18; _4 at 20; _3 at 22; _2 at 24; _1 at 26; _0 at 28]
         assigns ! (of-opd ! (unit-lit !)) (from ! (stop !)) (init ! 28 refl (tt, tt)) $

@@ -3,7 +3,7 @@ use mathlib.Core.List.{List}
 use native.Mathlib.Omega.{arith}
 use Prim.Native.Nat.{ℕ, _+_, _*_}
 use lib.ListN.{set, length-set}
-use Rattle.lender.specs.Packing.{wordsAt}
+use Rattle.decision.specs.Words.{withWords}
 use borrow.Author.Needs.{needs}
 use Rattle.lender.proofs.put.Statement.{statement}
 use Rattle.lender.proofs.put.Tie as tie
@@ -55,7 +55,7 @@ same-length : tie.Need-same-length
 same-length c = search needs
 
 returns : tie.Need-returns
-unfolding wordsAt
+unfolding withWords
 returns c = search needs
 
 pub put-spec : {M : Type 1} → statement M

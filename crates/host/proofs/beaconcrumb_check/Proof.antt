@@ -1,0 +1,43 @@
+-- `host::beaconcrumb_check` meets its contract. Assumes nothing.
+use mathlib.Core.Path.{_≡_, sym, ap, _∙_}
+use Rattle.host.proofs.Taking.{where-refused, refused-number, loads-it, where-taken}
+use Rattle.checker.specs.Calls.{checking}
+use Rattle.host.specs.Codes.{judgementCode, checkCode}
+use borrow.Author.Needs.{needs}
+use Rattle.host.proofs.beaconcrumb_check.Statement.{statement}
+use Rattle.host.proofs.beaconcrumb_check.Tie as tie
+use Rattle.checker.proofs.Case.check.Reads as check-reads
+use Rattle.host.proofs.judged.Reads as judged-reads
+use Rattle.host.proofs.loaded.Reads as loaded-reads
+use Rattle.host.proofs.number.Reads as number-reads
+
+loaded-requires : tie.Need-loaded-requires
+loaded-requires c κs = search needs
+
+number-requires : tie.Need-number-requires
+number-requires c κs = search needs
+
+returns : tie.Need-returns
+unfolding checkCode
+returns c = refused-number (c .before .before .before .before .before .args .log .now) _ _ (c .before .number .ensures) (c .before .before .loaded .ensures .0) _ (c .if1 .taken)
+
+check-requires : tie.Need-check-requires
+check-requires c κs = search needs
+
+judged-requires : tie.Need-judged-requires
+judged-requires c κs = search needs
+
+returns-2 : tie.Need-returns-2
+unfolding checkCode
+returns-2 c =
+    let a = c .before .before .before .before .before .before .before .before .args in
+    let number-is = c .before .before .before .before .number .ensures in
+    let loads = c .before .before .before .before .before .loaded .ensures in
+    let z = c .before .before .before .if1 .left in
+    where-taken (a .log .now) _ _ number-is (loads .0) _ _ _ z
+    (c .judged .ensures ∙ ap (λ r. judgementCode (r .judgement)) (c .before .check .ensures .0) ∙ ap (λ k. judgementCode (checking k (a .order .now) .judgement)) (loads .1 (loads-it (a .log .now) _ _ number-is (loads .0) z)))
+
+pub beaconcrumb-check-spec : {M : Type 1} → statement M
+beaconcrumb-check-spec =
+    tie.close
+    (tie.spec loaded-requires number-requires returns check-requires judged-requires returns-2)

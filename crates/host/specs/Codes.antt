@@ -1,0 +1,96 @@
+-- What each function gives and leaves, of the case that a log is loaded into: 0, 255 or the refusal's number, and what is written where it is 0.
+-- The numbers of Load come first, then those of the call. Assumes nothing.
+use Prim.Native.Nat.{ℕ, _+_, _*_}
+use mathlib.Core.Bool.{cond}
+use mathlib.Core.List.{List}
+use lib.Dec.{eqb, ltb}
+use lib.ListN.{length, replicate}
+use Rattle.model.specs.Log.{loadNumber}
+use Rattle.model.specs.Lent.{noConstraint}
+use Rattle.checker.specs.declared.Case.{Case}
+use Rattle.checker.specs.declared.Decision.{Decision}
+use Rattle.checker.specs.declared.Encoding.{Encoding}
+use Rattle.checker.specs.declared.Judgement.{Judgement}
+use Rattle.checker.specs.declared.Judgement.the-variants.{Legal, Illegal, Refused}
+use Rattle.checker.specs.declared.Verdict.{Verdict}
+use Rattle.checker.specs.declared.Verdict.the-variants.{Order, Without, Refused as RefusedVerdict}
+use Rattle.checker.specs.Answers.{numberOf}
+use Rattle.checker.specs.Cases.{loadedCase}
+use Rattle.checker.specs.Calls.{checking}
+use Rattle.checker.specs.Decisions.{deciding}
+use Rattle.checker.specs.Encodings.{encodeAnswer, encodeList, encodeRows}
+use Rattle.checker.specs.Results.{orderRefused, orderLeft, tableLeft}
+use Rattle.host.specs.Images.{filled, valueIn, polygraphIn}
+
+-- 0 legal, 255 not legal, else the refusal's number
+abbrev pub judgementCode : Judgement → ℕ
+judgementCode Legal = 0
+judgementCode Illegal = 255
+judgementCode (Refused n) = n
+
+-- 255 for 'no order', the refusal's number, or, where there is an order, what is given
+abbrev pub verdictCode : Verdict → ℕ → ℕ
+verdictCode Order n = n
+verdictCode Without n = 255
+verdictCode (RefusedVerdict m) n = m
+
+-- what stands where there is an order, and else
+abbrev pub whereOrdered : {X : Type 0} → Verdict → X → X → X
+whereOrdered Order x y = x
+whereOrdered Without x y = y
+whereOrdered (RefusedVerdict m) x y = y
+
+-- what stands where Load takes the log, and else
+abbrev pub whereLoaded : {X : Type 0} → List ℕ → X → X → X
+whereLoaded log x y = cond (eqb (loadNumber log) 0) x y
+
+unfoldable pub checkCode : List ℕ → List ℕ → ℕ
+checkCode log order = whereLoaded log (judgementCode (checking (loadedCase log) order .judgement)) (loadNumber log)
+
+-- Of a case that is decided with an order: 25 where the table has fewer than 64 bytes, or the order fewer than T.
+unfoldable pub roomCode : Case → ℕ → ℕ → ℕ
+roomCode c order table = cond (ltb table 64) 25 (orderRefused c order)
+
+-- the order by Order, and the table by Table, as bytes; both as they were where there is no room for one of them
+unfoldable pub orderOf : Case → List ℕ → ℕ → List ℕ
+orderOf c order table = cond (eqb (roomCode c (length order) table) 0) (orderLeft c order) order
+
+unfoldable pub tableOf : Case → ℕ → List ℕ → List ℕ
+tableOf c order table = cond (eqb (roomCode c order (length table)) 0) (filled (valueIn (tableLeft c (replicate 32 0))) 32 table) table
+
+-- the decision, on a list that has room for any that is not refused
+abbrev pub decisionOf : List ℕ → ℕ → ℕ → Decision
+decisionOf log e pruning = deciding (loadedCase log) e pruning 4096
+
+unfoldable pub decideCode : List ℕ → ℕ → ℕ → ℕ → ℕ → ℕ
+decideCode log e pruning order table =
+    let d = decisionOf log e pruning in
+    whereLoaded log (verdictCode (d .verdict) (roomCode (d .case) order table)) (loadNumber log)
+
+unfoldable pub orderAfter : List ℕ → ℕ → ℕ → List ℕ → ℕ → List ℕ
+orderAfter log e pruning order table =
+    let d = decisionOf log e pruning in
+    whereLoaded log (whereOrdered (d .verdict) (orderOf (d .case) order table) order) order
+
+unfoldable pub tableAfter : List ℕ → ℕ → ℕ → ℕ → List ℕ → List ℕ
+tableAfter log e pruning order table =
+    let d = decisionOf log e pruning in
+    whereLoaded log (whereOrdered (d .verdict) (tableOf (d .case) order table) table) table
+
+-- Of Encode's answer: 25 where there are fewer bytes than the polygraph takes.
+unfoldable pub polygraphCode : Encoding → ℕ → ℕ
+polygraphCode r room = cond (eqb (numberOf (r .reply)) 0) (cond (ltb room (130 + 10 * r .left)) 25 0) (numberOf (r .reply))
+
+-- the polygraph by Encode, on lists that have room for any that is not refused, as bytes
+unfoldable pub polygraphAfter : Case → ℕ → ℕ → List ℕ → List ℕ
+polygraphAfter c e pruning out =
+    let r = encodeAnswer c e pruning 4096 32 in
+    cond (eqb (polygraphCode r (length out)) 0)
+    (polygraphIn (r .left) (encodeRows c e pruning 4096 (replicate 32 0)) (encodeList c e pruning (replicate 4096 noConstraint) 32) out)
+    out
+
+unfoldable pub encodeCode : List ℕ → ℕ → ℕ → ℕ → ℕ
+encodeCode log e pruning room = whereLoaded log (polygraphCode (encodeAnswer (loadedCase log) e pruning 4096 32) room) (loadNumber log)
+
+unfoldable pub encodeAfter : List ℕ → ℕ → ℕ → List ℕ → List ℕ
+encodeAfter log e pruning out = whereLoaded log (polygraphAfter (loadedCase log) e pruning out) out

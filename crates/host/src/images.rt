@@ -1,0 +1,99 @@
+// Numbers as bytes, low byte first: a table's values, and a polygraph.
+ghost use mathlib.Core.Path.{_≡_};
+ghost use Prim.Native.Nat.{_≤_, _*_, _+_};
+ghost use lib.ListN.{length};
+ghost use Rattle.host.specs.Images.{pairBytes, wordBytes, constraintBytes, filled, valueIn, rowIn, wordsIn};
+ghost use Rattle.search.specs.Constraints.{conAt};
+use model::Constraint;
+
+// Two bytes of a number.
+fn put_pair(v: u16, at: usize, out: &mut [u8])
+    requires { ⌜ at + 2 ≤ length (now out) ⌝ }
+    ensures { λ _. ⌜ now (out .exit) ≡ pairBytes at v (now (out .entry)) ⌝ }
+{
+    out[at] = (v % 256) as u8;
+    out[at + 1] = (v / 256) as u8;
+}
+
+// Four bytes of a number.
+fn put_word(v: u32, at: usize, out: &mut [u8])
+    requires { ⌜ at + 4 ≤ length (now out) ⌝ }
+    ensures { λ _. ⌜ now (out .exit) ≡ wordBytes at v (now (out .entry)) ⌝ }
+{
+    out[at] = (v % 256) as u8;
+    out[at + 1] = (v / 256 % 256) as u8;
+    out[at + 2] = (v / 65536 % 256) as u8;
+    out[at + 3] = (v / 16777216) as u8;
+}
+
+// The 32 values of a table.
+pub(crate) fn put_values(values: &[u16; 32], out: &mut [u8])
+    requires { ⌜ 64 ≤ length (now out) ⌝ }
+    ensures { λ _. ⌜ now (out .exit) ≡ filled (valueIn (now (values .entry))) 32 (now (out .entry)) ⌝ }
+{
+    let mut i: usize = 0;
+    while i < 32 {
+        put_pair(values[i], 2 * i, out);
+        i += 1;
+    }
+}
+
+// The 32 row words, behind two bytes.
+fn put_rows(rows: &[u32; 32], out: &mut [u8])
+    requires { ⌜ 130 ≤ length (now out) ⌝ }
+    ensures { λ _. ⌜ now (out .exit) ≡ filled (rowIn (now (rows .entry))) 32 (now (out .entry)) ⌝ }
+{
+    let mut i: usize = 0;
+    while i < 32 {
+        put_word(rows[i], 2 + 4 * i, out);
+        i += 1;
+    }
+}
+
+// The ten bytes of a constraint.
+fn put_constraint(c: Constraint, at: usize, out: &mut [u8])
+    requires { ⌜ at + 10 ≤ length (now out) ⌝ }
+    ensures { λ _. ⌜ now (out .exit) ≡ constraintBytes at c (now (out .entry)) ⌝ }
+{
+    put_word(c.fromA, at, out);
+    out[at + 4] = (c.toA % 256) as u8;
+    put_word(c.fromB, at + 5, out);
+    out[at + 9] = (c.toB % 256) as u8;
+}
+
+// A constraint that stands as four words.
+fn constraint_at(words: &[u32], i: usize) -> Constraint
+    requires { ⌜ 4 * i + 4 ≤ length (now words) ⌝ }
+    ensures { λ r. ⌜ r ≡ conAt (now (words .entry)) i ⌝ }
+{
+    let k = 4 * i;
+    Constraint {
+        fromA: words[k],
+        toA: words[k + 1],
+        fromB: words[k + 2],
+        toB: words[k + 3],
+    }
+}
+
+// The first n constraints of a list that was packed, four words each.
+fn put_constraints(words: &[u32], n: usize, out: &mut [u8])
+    requires { ⌜ (4 * n ≤ length (now words)) × (130 + 10 * n ≤ length (now out)) ⌝ }
+    ensures { λ _. ⌜ now (out .exit) ≡ filled (wordsIn (now (words .entry))) n (now (out .entry)) ⌝ }
+{
+    let mut i: usize = 0;
+    while i < n {
+        let c = constraint_at(words, i);
+        put_constraint(c, 130 + 10 * i, out);
+        i += 1;
+    }
+}
+
+// The polygraph: the count left, the row words, and the constraints left.
+pub(crate) fn put_polygraph(left: usize, rows: &[u32; 32], words: &[u32], out: &mut [u8])
+    requires { ⌜ (left ≤ 4096) × (4 * left ≤ length (now words)) × (130 + 10 * left ≤ length (now out)) ⌝ }
+    ensures { λ _. ⌜ now (out .exit) ≡ filled (wordsIn (now (words .entry))) left (filled (rowIn (now (rows .entry))) 32 (pairBytes 0 left (now (out .entry)))) ⌝ }
+{
+    put_pair(left as u16, 0, out);
+    put_rows(rows, out);
+    put_constraints(words, left, out);
+}
