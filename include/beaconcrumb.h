@@ -8,6 +8,8 @@
  * Of the caller is asked what C can't test: a pointer is not null and has as many bytes as the length after it says, also where that is 0,
  * and a buffer that a call writes to overlaps nothing else that the call is given.
  *
+ * Stack: the search may take some 820 KB, and the lists some 64 KB each (docs/DECISIONS.md), so a thread that calls it should have 4 MB.
+ *
  * Numbers: 0 done; 1 to 11 the log is refused (document 01, "Refused because of the input"); 12 encoding over 2 or pruning over 1;
  * 13 the order is not every number below T once; 14 more than 4,096 constraints before pruning; 25 a buffer is too short; 255 no, as said below.
  */
@@ -23,9 +25,11 @@ extern "C" {
 
 /*
  * Finds the first legal order of a log, and the table that it leaves.
- * Takes the log, an encoding (0 plain, 1 joined, 2 chained) and pruning (0 or 1): they change the time and never the answer.
+ * Takes the log, an encoding (0 plain, 1 joined, 2 chained) and pruning (0 or 1): where they are taken they change the time and
+ * never the answer.
  * Gives 0 and writes the order, T numbers of one byte, and the table, 32 values by key of two bytes, low byte first.
- * Gives 255 where no legal order exists, and 1 to 12, 14 or 25 (an order shorter than T bytes, a table shorter than 64) where it refuses.
+ * Gives 255 where no legal order exists, and 1 to 12, 14 or 25 (an order shorter than T bytes, a table shorter than 64) where it refuses: it tests
+ * 1 to 11, then 12, 14, 255, 25. So a short buffer is refused only where there is an order to write.
  * Unless it gives 0 nothing is written; bytes behind the T and behind the 64 are never written.
  */
 uint32_t beaconcrumb_decide(const uint8_t *log, size_t log_len, uint8_t encoding, uint8_t pruning,
@@ -36,14 +40,15 @@ uint32_t beaconcrumb_decide(const uint8_t *log, size_t log_len, uint8_t encoding
  * Gives 0 and writes, low bytes first: the count of constraints left (2 bytes); the 32 row words (4 bytes each; bit v of word u is the edge
  * from u to v); and for each constraint left, in list order, 10 bytes: side A's sources as a mask (4) and target (1), then side B's.
  * So out needs 130 bytes and 10 for each constraint left: 41,090 are always enough.
- * Gives 1 to 12, 14 or 25 (out is shorter than that) where it refuses. Unless it gives 0 nothing is written; bytes behind are never written.
+ * Gives 1 to 12, 14 or 25 (out is shorter than that) where it refuses, tested in that order. Unless it gives 0 nothing is written; bytes behind
+ * are never written.
  */
 uint32_t beaconcrumb_encode(const uint8_t *log, size_t log_len, uint8_t encoding, uint8_t pruning,
                             uint8_t *out, size_t out_len);
 
 /*
  * Says whether an order, one byte for each transaction, is legal for a log: it keeps each cabinet's own order and explains every read.
- * Gives 0 where it is, 255 where it is not, and 1 to 11 or 13 where it refuses. Writes nothing.
+ * Gives 1 to 11, then 13, where it refuses; else 0 where the order is legal and 255 where it is not. Writes nothing.
  */
 uint32_t beaconcrumb_check(const uint8_t *log, size_t log_len, const uint8_t *order, size_t order_len);
 
