@@ -22,8 +22,7 @@ use Rattle.search.specs.Constraints.{conAt, isOpen, AimedAll}
 use Rattle.search.specs.Steps.{Narrowed, Pruned}
 use Rattle.search.specs.Orders.{Solution, Firsts, Witness, Stage, Picked, Begun, Begins, First}
 use Rattle.search.proofs.Words.{zero-list}
-use Rattle.search.proofs.Steps.{held-more}
-use Rattle.search.proofs.Picks.{held-one, witness-order}
+use Rattle.search.proofs.Picks.{held-sure, sure-more, witness-order}
 
 -- the number after a prefix
 pub record Next (t : ℕ) (pre o : List ℕ) : Type 0 where
@@ -84,7 +83,7 @@ module _ (t : ℕ) (w : List ℕ) (n : ℕ) (g : List ℕ) where
   some-good : (pre c l sel : List ℕ) (set : ℕ) → Begun t w n g pre c l sel set → (o : List ℕ) × Solution t w n g o × RespectsKnown o c
   some-good pre c l sel set b =
       let z = witness-order t (b .stage .few) w n (b .stage .aimed) c sel (b .stage .witness) in
-      let r = b .stage .witness .back (z .0) (z .2) in
+      let r = b .stage .witness .back (z .0) (z .1) (z .2) in
       (z .0, record { order = z .1; known = b .back (z .0) r; keeps = z .3 }, r)
 
   -- where there is a selection, pruning is not stuck
@@ -92,7 +91,7 @@ module _ (t : ℕ) (w : List ℕ) (n : ℕ) (g : List ℕ) where
   not-stuck few aimed d l sel y false c′ l′ x = refl
   not-stuck few aimed d l sel y true c′ l′ x =
       let z = witness-order t few w n aimed d sel y in
-      absurd (x .hopeless refl (z .0) (y .back (z .0) (z .2)) (z .3))
+      absurd (x .hopeless refl (z .0) (y .back (z .0) (z .1) (z .2)) (z .3))
 
   -- something is unplaced
   unplaced : (pre c l sel : List ℕ) (set : ℕ) → Begun t w n g pre c l sel set → length pre < t → set ≢ 0
@@ -147,15 +146,15 @@ module _ (t : ℕ) (w : List ℕ) (n : ℕ) (g : List ℕ) where
           aimed = st .aimed;
           ready = record { given = st .ready .given; partial = x .grown .partial; fit = λ i a. st .ready .fit i (x .fewer i a) };
           settled = λ i h a.
-              ⊎-elim (λ y. x .settled i y a)
-              (λ y. held-more c c′ (conAt w i) (λ u v′ z. x .grown .more u v′ (p .placed .more u v′ z)) (st .settled i h y)) (decide (isOpen l i));
+              ⊎-elim (λ y. held-sure t few w n (st .aimed) c′ i h (x .settled i y a))
+              (λ y. sure-more t c c′ (conAt w i) (λ u v′ z. x .grown .more u v′ (p .placed .more u v′ z)) (st .settled i h y)) (decide (isOpen l i));
           within = x .grown .within t (p .placed .within t (st .within) (at-v .0) (λ y m. b .inside y m .0)) (st .aimed);
           witness =
               record {
                 partial = k .partial;
                 within = k .within;
-                back = λ o r. x .grown .keeps o (k .back o r) (λ i h. held-one t few w n (st .aimed) sel′ o r i h (k .held i h));
-                held = k .held;
+                back = λ o y r. x .grown .keeps o (k .back o y r) (λ i h. k .sure i h o y r);
+                sure = k .sure;
               };
         }
 

@@ -17,8 +17,9 @@ use Rattle.model.proofs.Sides.{cyclic-in}
 use Rattle.graph.proofs.Rows.{reach-idem}
 use Rattle.search.specs.Constraints.{conAt, isOpen}
 use Rattle.search.specs.Steps.{PartialOrder, Ready, Pruned, Narrowed, Walked, Hopeless}
-use Rattle.search.specs.Orders.{First, Answered, Asked, Begins}
-use Rattle.search.proofs.Steps.{closed-tidy, no-true, is-true, is-false, way-within, held-more}
+use Rattle.search.specs.Orders.{Sure, First, Answered, Asked, Begins, Lighter}
+use Rattle.search.proofs.Steps.{closed-tidy, no-true, is-true, is-false, way-within}
+use Rattle.search.proofs.Picks.{held-sure, sure-more, opposed-sure}
 
 module _ (t : ℕ) (w : List ℕ) (n : ℕ) (g : List ℕ) (a : Asked t w n g) (c : List ℕ) (e : c ≡ reach g) where
   tidy-g : Tidy g
@@ -73,43 +74,52 @@ module _ (t : ℕ) (w : List ℕ) (n : ℕ) (g : List ℕ) (a : Asked t w n g) (
             wi =
                 narrow .grown .within t (subst (λ (x : List ℕ). Within x t) (sym e) (λ u v x. way-within g t (a .within) u v (reach-way g u v x))) (a .aimed)
 
-            module _ (found : Bool) (sel : List ℕ) (x : Walked w n d m found sel) where
-              pub first-none : found ≡ false → (out : List ℕ) → out ≡ replicate 32 0 → Answered t w n g false out
-              first-none y out z = nothing (λ o k h. x .none y o (narrow .grown .keeps o k h) h) out z
+            module _ (light : List ℕ) (few : Lighter w m light) where
+              pub light-ready : Ready w n d light
+              light-ready = record { given = a .given; partial = narrow .grown .partial; fit = λ i x. pruned-ready .fit i (few .fewer i x) }
 
-              pub first-begins : found ≡ true → (set : ℕ) → ((y : ℕ) → bit set y ≡ ltb y t) → Begins t w n d m sel set
-              first-begins y set k =
-                  let z = x .some y in
-                  record {
-                    stage =
-                        record {
-                          few = a .few;
-                          aimed = a .aimed;
-                          ready = pruned-ready;
-                          settled = settled;
-                          within = wi;
-                          witness =
-                              record {
-                                partial = z .partial;
-                                within = z .within t wi (a .aimed);
-                                back = λ o r u v hu hv b. r u v hu hv (z .more u v b);
-                                held = λ i h. ⊎-elim (λ b. z .held i b) (λ b. held-more d sel (conAt w i) (z .more) (settled i h b)) (decide (isOpen m i));
-                              };
-                        };
-                    inside = λ v h. ltb→lt v t (eq-T (k v) h);
-                    whole = λ v h. eq-T (sym (k v)) (lt→ltb v t h);
-                  }
+              sure : (i : ℕ) → i < n → T (not (isOpen light i)) → Sure t d (conAt w i)
+              sure i h x =
+                  ⊎-elim (λ b. opposed-sure t d (conAt w i) (a .aimed i h .toA-small) (a .aimed i h .toB-small) (few .gone i b x))
+                  (λ b. held-sure t (a .few) w n (a .aimed) d i h (settled i h b)) (decide (isOpen m i))
 
-              pub first-some : (out : List ℕ) → First t w n d out → Answered t w n g true out
-              first-some out k =
-                  record {
-                    some = λ y.
-                        record {
-                          long = k .long;
-                          solves = record { order = k .solves .order; known = back (take t out) (λ u v hu hv b. k .solves .known u v hu hv (narrow .grown .more u v b)); keeps = k .solves .keeps };
-                          lowest = λ o y. k .lowest o (record { order = y .order; known = narrow .grown .keeps o (into o (y .known)) (y .keeps); keeps = y .keeps });
-                          zeros = k .zeros;
-                        };
-                    none = λ y. no-true (sym y);
-                    zeros = λ y. no-true (sym y);
-                  }
+              module _ (found : Bool) (sel : List ℕ) (x : Walked w n d light found sel) where
+                pub first-none : found ≡ false → (out : List ℕ) → out ≡ replicate 32 0 → Answered t w n g false out
+                first-none y out z = nothing (λ o k h. x .none y o (narrow .grown .keeps o k h) h) out z
+
+                pub first-begins : found ≡ true → (set : ℕ) → ((y : ℕ) → bit set y ≡ ltb y t) → Begins t w n d light sel set
+                first-begins y set k =
+                    let z = x .some y in
+                    record {
+                      stage =
+                          record {
+                            few = a .few;
+                            aimed = a .aimed;
+                            ready = light-ready;
+                            settled = sure;
+                            within = wi;
+                            witness =
+                                record {
+                                  partial = z .partial;
+                                  within = z .within t wi (a .aimed);
+                                  back = λ o y r u v hu hv b. r u v hu hv (z .more u v b);
+                                  sure = λ i h. ⊎-elim (λ b. held-sure t (a .few) w n (a .aimed) sel i h (z .held i b)) (λ b. sure-more t d sel (conAt w i) (z .more) (sure i h b)) (decide (isOpen light i));
+                                };
+                          };
+                      inside = λ v h. ltb→lt v t (eq-T (k v) h);
+                      whole = λ v h. eq-T (sym (k v)) (lt→ltb v t h);
+                    }
+
+                pub first-some : (out : List ℕ) → First t w n d out → Answered t w n g true out
+                first-some out k =
+                    record {
+                      some = λ y.
+                          record {
+                            long = k .long;
+                            solves = record { order = k .solves .order; known = back (take t out) (λ u v hu hv b. k .solves .known u v hu hv (narrow .grown .more u v b)); keeps = k .solves .keeps };
+                            lowest = λ o y. k .lowest o (record { order = y .order; known = narrow .grown .keeps o (into o (y .known)) (y .keeps); keeps = y .keeps });
+                            zeros = k .zeros;
+                          };
+                      none = λ y. no-true (sym y);
+                      zeros = λ y. no-true (sym y);
+                    }

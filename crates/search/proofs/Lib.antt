@@ -9,3 +9,4 @@ pub mod Picks
 pub mod Fills
 pub mod Firsts
 pub mod Answer
+pub mod Lights

@@ -6,23 +6,25 @@ use mathlib.Core.Path.{_≡_, refl, sym, subst}
 use mathlib.Core.Logic.{_⊎_, inl, inr, ⊎-elim, _≢_}
 use mathlib.Core.Bool.{Bool, true, false, not, _&&_}
 use mathlib.Core.List.{List}
-use lib.Dec.{T, eqb, ltb, ltb→lt, nltb→le}
+use lib.Dec.{T, eqb, eqb→eq, ltb, ltb→lt, nltb→le}
 use lib.Count.{trailingZeros}
 use Rattle.model.specs.Lists.{implies, any, upTo, bit, place}
 use Rattle.model.specs.History.{isOrder}
 use Rattle.model.specs.Polygraph.{has, RespectsKnown, RespectsSide, RespectsOne}
 use Rattle.model.specs.RowWords.{Within, sideIn, held}
-use Rattle.model.proofs.Basics.{clash, decide, same?, eq-T, not-intro, and-l, and-r, and-in, ne-eqb, implies-out, all-upTo-out, any-upTo-out, any-upTo-in}
-use Rattle.model.proofs.Masks.{bit-none}
+use Rattle.model.proofs.Basics.{clash, decide, same?, eq-T, not-intro, and-l, and-r, and-in, eq-eqb, ne-eqb, implies-out, all-upTo-out, any-upTo-out, any-upTo-in}
+use Rattle.model.proofs.Masks.{bit-none, bit-one}
+use Rattle.model.proofs.Places.{order-out, order-total}
 use Rattle.model.proofs.Loops.{any-bit}
 use Rattle.model.proofs.Topology.{topological}
 use Rattle.model.proofs.Sides.{cyclic-out}
 use Rattle.search.specs.Constraints.{conAt, isOpen, Keeps, AimedAll}
 use Rattle.search.specs.Steps.{Ready, Walked}
-use Rattle.search.specs.Orders.{Under, Placed, Witness, Stage, Never, Below, Picked}
+use Rattle.model.specs.declared.Constraint.{Constraint}
+use Rattle.search.specs.Orders.{Sure, opposed, Under, Placed, Witness, Stage, Never, Below, Picked}
 use Rattle.graph.proofs.Rows.{bit-below}
 use Rattle.search.proofs.Words.{Scan, scan-before, scan-none, scan-low, scan-next, low-set}
-use Rattle.search.proofs.Steps.{closed-tidy, held-out, held-more}
+use Rattle.search.proofs.Steps.{closed-tidy, held-out}
 
 -- ---- an order that respects words in which a constraint is held respects one of its sides
 
@@ -35,11 +37,30 @@ held-one t few w n aimed d o r i h x =
     λ from to l y u hu b. r u to hu (omega arith) (implies-out (bit from u) (has d u to) (all-upTo-out (λ u. implies (bit from u) (has d u to)) 32 y u hu) b) in
     ⊎-elim (λ y. inl (side (k .fromA) (k .toA) (m .toA-small) y)) (λ y. inr (side (k .fromB) (k .toB) (m .toB-small) y)) (held-out d k x)
 
+-- so it is sure; what is sure stays so as edges are added; and what is opposed is sure
+pub held-sure : (t : ℕ) → t ≤ 32 → (w : List ℕ) (n : ℕ) → AimedAll t w n → (d : List ℕ) (i : ℕ) → i < n → T (held d (conAt w i)) → Sure t d (conAt w i)
+held-sure t few w n aimed d i h x o y r = held-one t few w n aimed d o r i h x
+
+pub sure-more : (t : ℕ) (c d : List ℕ) (k : Constraint) → ((u v : ℕ) → T (has c u v) → T (has d u v)) → Sure t c k → Sure t d k
+sure-more t c d k m s o y r = s o y (λ u v hu hv x. r u v hu hv (m u v x))
+
+pub opposed-sure : (t : ℕ) (c : List ℕ) (k : Constraint) → k .toA < t → k .toB < t → T (opposed k) → Sure t c k
+unfolding opposed
+opposed-sure t c k ha hb x o y r =
+    let edges = eqb (k .fromA) (2 ^ k .toB) && eqb (k .fromB) (2 ^ k .toA) in
+    let both = and-l edges (not (eqb (k .toA) (k .toB))) x in
+    let apart = and-r edges (not (eqb (k .toA) (k .toB))) x in
+    let one : (from to other : ℕ) → T (eqb from (2 ^ other)) → place other o < place to o → RespectsSide o from to =
+    λ from to other e l s hs b. subst (λ (z : ℕ). place z o < place to o) (sym (eqb→eq s other (eq-T (bit-one other s) (subst (λ (z : ℕ). T (bit z s)) (eqb→eq from (2 ^ other) e) b)))) l in
+    ⊎-elim (λ l. inr (one (k .fromB) (k .toB) (k .toA) (and-r (eqb (k .fromA) (2 ^ k .toB)) (eqb (k .fromB) (2 ^ k .toA)) both) l))
+    (λ l. inl (one (k .fromA) (k .toA) (k .toB) (and-l (eqb (k .fromA) (2 ^ k .toB)) (eqb (k .fromB) (2 ^ k .toA)) both) l))
+    (order-total (order-out t o y) (k .toA) (k .toB) ha (λ e. clash (eqb (k .toA) (k .toB)) (eq-eqb e) apart))
+
 -- the order of a witness
 pub witness-order : (t : ℕ) → t ≤ 32 → (w : List ℕ) (n : ℕ) → AimedAll t w n → (c sel : List ℕ) → Witness t w n c sel → (o : List ℕ) × T (isOrder t o) × RespectsKnown o sel × Keeps o w n
 witness-order t few w n aimed c sel x =
     let o = topological sel t few (x .within) (cyclic-out sel (x .partial .acyclic) (closed-tidy sel (x .partial .closed))) in
-    (o .0, o .1, o .2, λ i h. held-one t few w n aimed sel (o .0) (o .2) i h (x .held i h))
+    (o .0, o .1, o .2, λ i h. x .sure i h (o .0) (o .1) (o .2))
 
 -- ---- the lowest by a measure
 
@@ -101,7 +122,7 @@ module _ (t : ℕ) (w : List ℕ) (n : ℕ) (c l sel : List ℕ) (g : Stage t w 
       let z = any-upTo-out (bit set) 32 (eq-T (sym (any-bit 32 set small)) (ne-eqb {m = set} {n = 0} ne)) in
       let y = least t (bit set) (λ x. place x o) (z .0) (low (z .0) (z .1)) (z .1) in
       let x = y .0 in
-      let a = first-under c under (g .within) u o (g .witness .back o (k .2)) x (y .3) in
+      let a = first-under c under (g .within) u o (g .witness .back o (k .1) (k .2)) x (y .3) in
       let b = first-under sel over (g .witness .within) v o (k .2) x (y .3) in
       let t = eq-T (sym (is-r x)) (and-in (bit m x) (not (bit over x)) (eq-T (sym (is-m x)) (and-in (bit set x) (not (bit under x)) (y .2) a)) b) in
       subst (λ (q : Bool). T q) (bit-none x) (subst (λ (q : ℕ). T (bit q x)) e t)
@@ -135,9 +156,9 @@ module _ (t : ℕ) (w : List ℕ) (n : ℕ) (c l sel : List ℕ) (g : Stage t w 
         record {
           partial = z .partial;
           within = z .within t within-after (g .aimed);
-          back = λ o r a b ha hb q. r a b ha hb (z .more a b q);
-          held = λ i h.
-              ⊎-elim (λ q. z .held i q) (λ q. held-more c e (conAt w i) (λ a b y. z .more a b (p .more a b y)) (g .settled i h q)) (decide (isOpen l i));
+          back = λ o y r a b ha hb q. r a b ha hb (z .more a b q);
+          sure = λ i h.
+              ⊎-elim (λ q. held-sure t (g .few) w n (g .aimed) e i h (z .held i q)) (λ q. sure-more t c e (conAt w i) (λ a b y. z .more a b (p .more a b y)) (g .settled i h q)) (decide (isOpen l i));
         }
 
     -- the last selection allows it
@@ -147,10 +168,10 @@ module _ (t : ℕ) (w : List ℕ) (n : ℕ) (c l sel : List ℕ) (g : Stage t w 
         record {
           partial = y .partial;
           within = y .within t (x .within) hv low;
-          back = λ o k.
-              p .keeps o (x .back o (λ a b ha hb z. k a b ha hb (y .more a b z)))
+          back = λ o s k.
+              p .keeps o (x .back o s (λ a b ha hb z. k a b ha hb (y .more a b z)))
               (λ a ha b i. k v a (omega (arith, g .few)) ha (y .first a b i));
-          held = λ i h. held-more sel e (conAt w i) (y .more) (x .held i h);
+          sure = λ i h. sure-more t sel e (conAt w i) (y .more) (x .sure i h);
         }
 
 -- ---- the loop over the candidates: m has those that are left, `free` the lowest that the selection allows too

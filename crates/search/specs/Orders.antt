@@ -2,16 +2,17 @@
 use Prim.Native.Nat.{ℕ, _+_, _^_, _<_, _≤_}
 use mathlib.Core.Path.{_≡_}
 use mathlib.Core.Logic.{_⊎_, _≢_}
-use mathlib.Core.Bool.{Bool, true, false, not, cond}
+use mathlib.Core.Bool.{Bool, true, false, not, cond, _&&_}
 use mathlib.Core.List.{List, _++_}
 use lib.Bits.{bitOr}
-use lib.Dec.{T}
+use lib.Dec.{T, eqb}
 use lib.ListN.{length, getD, take, replicate}
 use Rattle.model.specs.Lists.{bit, count}
 use Rattle.model.specs.History.{isOrder}
-use Rattle.model.specs.Polygraph.{has, Before, RespectsKnown}
+use Rattle.model.specs.declared.Constraint.{Constraint}
+use Rattle.model.specs.Polygraph.{has, Before, RespectsKnown, RespectsOne}
 use Rattle.model.specs.Search.{LexLess}
-use Rattle.model.specs.RowWords.{Within, held}
+use Rattle.model.specs.RowWords.{Within}
 use Rattle.search.specs.Constraints.{conAt, isOpen, Keeps, AimedAll, Given}
 use Rattle.search.specs.Steps.{PartialOrder, Ready}
 
@@ -20,6 +21,19 @@ pub record Solution (t : ℕ) (w : List ℕ) (n : ℕ) (g o : List ℕ) : Type 0
   pub order : T (isOrder t o)
   pub known : RespectsKnown o g
   pub keeps : Keeps o w n
+
+-- every order of the numbers below t that respects the row words has one side of the constraint
+abbrev pub Sure : ℕ → List ℕ → Constraint → Type 0
+Sure t c k = (o : List ℕ) → T (isOrder t o) → RespectsKnown o c → RespectsOne o k
+
+-- A constraint that is an edge against the same edge turned round: every order has one of the two, and pruning adds nothing by it.
+unfoldable pub opposed : Constraint → Bool
+opposed k = (eqb (k .fromA) (2 ^ k .toB) && eqb (k .fromB) (2 ^ k .toA)) && not (eqb (k .toA) (k .toB))
+
+-- some open constraints are left out: each of them is of that kind
+pub record Lighter (w l m : List ℕ) : Type 0 where
+  pub fewer : (i : ℕ) → T (isOpen m i) → T (isOpen l i)
+  pub gone : (i : ℕ) → T (isOpen l i) → T (not (isOpen m i)) → T (opposed (conAt w i))
 
 -- v stands before all others of the set
 abbrev pub Firsts : ℕ → ℕ → List ℕ → Type 0
@@ -46,15 +60,15 @@ pub record Placed (c : List ℕ) (set v : ℕ) (d : List ℕ) : Type 0 where
 pub record Witness (t : ℕ) (w : List ℕ) (n : ℕ) (c sel : List ℕ) : Type 0 where
   pub partial : PartialOrder sel
   pub within : Within sel t
-  pub back : (o : List ℕ) → RespectsKnown o sel → RespectsKnown o c
-  pub held : (i : ℕ) → i < n → T (held sel (conAt w i))
+  pub back : (o : List ℕ) → T (isOrder t o) → RespectsKnown o sel → RespectsKnown o c
+  pub sure : (i : ℕ) → i < n → Sure t sel (conAt w i)
 
 -- what is kept from place to place: constraints that are not open are settled, and there is a selection
 pub record Stage (t : ℕ) (w : List ℕ) (n : ℕ) (c l sel : List ℕ) : Type 0 where
   pub few : t ≤ 32
   pub aimed : AimedAll t w n
   pub ready : Ready w n c l
-  pub settled : (i : ℕ) → i < n → T (not (isOpen l i)) → T (held c (conAt w i))
+  pub settled : (i : ℕ) → i < n → T (not (isOpen l i)) → Sure t c (conAt w i)
   pub within : Within c t
   pub witness : Witness t w n c sel
 

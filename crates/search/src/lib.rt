@@ -50,7 +50,7 @@ fn bits_from(word: u32, s: u32) -> u32
 }
 
 // Constraint i.
-fn con_at(words: &[u32], i: usize, n: usize) -> model::Constraint
+pub(crate) fn con_at(words: &[u32], i: usize, n: usize) -> model::Constraint
     requires { ⌜ (i < n) × Given (now words) n ⌝ }
     ensures { λ r. ⌜ r ≡ conAt (now (words .entry)) i ⌝ }
 {
@@ -138,7 +138,7 @@ fn last_side(rows: &[u32; 32], k: model::Constraint) -> Side
 }
 
 // The open constraints without constraint i.
-fn drop_at(left: &mut [u32; 128], i: usize)
+pub(crate) fn drop_at(left: &mut [u32; 128], i: usize)
     requires { ⌜ (i < 4096) × T (isOpen (now left) i) ⌝ }
     ensures { λ r. ⌜ Dropped (now (left .entry)) i (now (left .exit)) ⌝ }
 {
@@ -217,7 +217,7 @@ fn held(rows: &[u32; 32], k: model::Constraint) -> bool
 }
 
 // The first open constraint from `from` on, or n.
-fn next_open(left: &[u32; 128], from: usize, n: usize) -> usize
+pub(crate) fn next_open(left: &[u32; 128], from: usize, n: usize) -> usize
     requires { ⌜ (n ≤ 4096) × (from ≤ n) × Fit (now left) n ⌝ }
     ensures { λ r. ⌜ NextOpen (now (left .entry)) from n r ⌝ }
 {

@@ -6,9 +6,9 @@ ghost use Prim.Native.Nat.{ℕ, _+_, _*_, _-_, _<_, _≤_};
 ghost use lib.Bits.{bitOr};
 ghost use lib.Dec.{T, ltb};
 ghost use Rattle.model.specs.Lists.{bit};
-ghost use Rattle.search.specs.Constraints.{isOpen};
+ghost use Rattle.search.specs.Constraints.{isOpen, Given, Fit, Dropped};
 ghost use Rattle.search.specs.Steps.{PartialOrder};
-ghost use Rattle.search.specs.Orders.{Under, ledRow, Placed, Stage, Below, Picked, First, Asked, Answered, Begins};
+ghost use Rattle.search.specs.Orders.{Under, ledRow, Placed, Stage, Below, Picked, First, Asked, Answered, Begins, opposed, Lighter};
 
 // The number that comes next, the row words with it before all unplaced, and those of a selection.
 pub struct Choice {
@@ -185,6 +185,48 @@ fn all_open(n: usize) -> [u32; 128]
     out
 }
 
+// Whether a constraint is an edge against the same edge turned round.
+fn opposite(k: model::Constraint) -> bool
+    requires { ⌜ (k .toA < 32) × (k .toB < 32) ⌝ }
+    ensures { λ r. ⌜ r ≡ opposed k ⌝ }
+{
+    if k.fromA != 1 << k.toB {
+        return false;
+    }
+    if k.fromB != 1 << k.toA {
+        return false;
+    }
+    k.toA != k.toB
+}
+
+// The open constraints without constraint i, where it is to go.
+fn drop_if(left: &mut [u32; 128], i: usize, goes: bool)
+    requires { ⌜ (i < 4096) × T (isOpen (now left) i) ⌝ }
+    ensures { λ _. ⌜ ((goes ≡ true → Dropped (now (left .entry)) i (now (left .exit))) × (goes ≡ false → now (left .exit) ≡ now (left .entry))) ⌝ }
+{
+    if goes {
+        crate::drop_at(left, i);
+    }
+}
+
+// The open constraints without those: every order has one of their two sides, and pruning adds nothing by them. The search goes on without them.
+fn lighter(left: [u32; 128], words: &[u32], n: usize) -> [u32; 128]
+    requires { ⌜ Fit left n × Given (now words) n ⌝ }
+    ensures { λ r. ⌜ Lighter (now (words .entry)) left r ⌝ }
+{
+    let mut l = left;
+    let mut i: usize = 0;
+    loop {
+        let j = crate::next_open(&l, i, n);
+        if j >= n {
+            return l;
+        }
+        let k = crate::con_at(words, j, n);
+        drop_if(&mut l, j, opposite(k));
+        i = j + 1;
+    }
+}
+
 // The first order that respects the row words and one side of each of the first n constraints.
 pub fn first_order(rows: [u32; 32], words: &[u32], n: usize, t: usize) -> Found
     requires { ⌜ Asked t (now words) n rows ⌝ }
@@ -207,12 +249,13 @@ pub fn first_order(rows: [u32; 32], words: &[u32], n: usize, t: usize) -> Found
         };
     }
     let d = p.rows;
-    let a = crate::walk(d, &left, words, n);
+    let light = lighter(left, words, n);
+    let a = crate::walk(d, &light, words, n);
     let found = a.found;
     if found {
         let sel = a.rows;
         let set = numbers(t as u32);
-        let order = fill(d, left, sel, set, words, n, t);
+        let order = fill(d, light, sel, set, words, n, t);
         return Found { found: true, order };
     }
     Found {

@@ -1,64 +1,57 @@
 -- `search::order/first_order` meets its contract. Assumes nothing.
 use mathlib.Core.Path.{refl}
-use Rattle.search.proofs.Firsts.{first-cyclic, first-ready, first-stuck, pruned-ready, first-none, first-begins, first-some}
+use Rattle.search.proofs.Firsts.{first-cyclic, first-ready, first-stuck, pruned-ready, light-ready, first-none, first-begins, first-some}
 use borrow.Author.Needs.{needs}
 use Rattle.search.proofs.order.first_order.Statement.{statement}
 use Rattle.search.proofs.order.first_order.Tie as tie
 
--- src/order.rt:196:9
 closure-requires : tie.Need-closure-requires
 closure-requires c κs = search needs
 
--- src/order.rt:197:8
 cyclic-requires : tie.Need-cyclic-requires
 cyclic-requires c κs = search needs
 
--- src/order.rt:198:9
 returns : tie.Need-returns
 returns c =
     first-cyclic _ _ _ _ (c .before .before .before .before .pre) _ (c .before .before .closure .ensures) _ (c .before .cyclic .ensures) (c .if1 .taken) _ refl
 
--- src/order.rt:203:20
 all-open-requires : tie.Need-all-open-requires
 all-open-requires c κs = search needs
 
--- src/order.rt:204:9
 prune-requires : tie.Need-prune-requires
 prune-requires c κs =
     first-ready _ _ _ _ (c .before .before .before .before .before .before .pre) _ (c .before .before .before .before .closure .ensures) _ (c .before .before .before .cyclic .ensures) (c .before .before .if1 .left) _ (c .before .all-open .ensures)
 
--- src/order.rt:207:9
 returns-2 : tie.Need-returns-2
 returns-2 c =
     first-stuck _ _ _ _ (c .before .before .before .before .before .before .before .before .pre) _ (c .before .before .before .before .before .before .closure .ensures) _ (c .before .before .before .before .before .cyclic .ensures) (c .before .before .before .before .if1 .left) _ (c .before .before .before .all-open .ensures) _ _ _ (c .before .prune .ensures) (c .if2 .taken) _ refl
 
--- src/order.rt:213:9
+lighter-requires : tie.Need-lighter-requires
+lighter-requires c κs =
+    let r = pruned-ready _ _ _ _ (c .before .before .before .before .before .before .before .before .before .pre) _ (c .before .before .before .before .before .before .before .closure .ensures) _ (c .before .before .before .before .before .before .cyclic .ensures) (c .before .before .before .before .before .if1 .left) _ (c .before .before .before .before .all-open .ensures) _ _ _ (c .before .before .prune .ensures) (c .before .if2 .left) in
+    (r .fit, r .given)
+
 walk-requires : tie.Need-walk-requires
 walk-requires c κs =
-    pruned-ready _ _ _ _ (c .before .before .before .before .before .before .before .before .before .before .pre) _ (c .before .before .before .before .before .before .before .before .closure .ensures) _ (c .before .before .before .before .before .before .before .cyclic .ensures) (c .before .before .before .before .before .before .if1 .left) _ (c .before .before .before .before .before .all-open .ensures) _ _ _ (c .before .before .before .prune .ensures) (c .before .before .if2 .left)
+    light-ready _ _ _ _ (c .before .before .before .before .before .before .before .before .before .before .before .pre) _ (c .before .before .before .before .before .before .before .before .before .closure .ensures) _ (c .before .before .before .before .before .before .before .before .cyclic .ensures) (c .before .before .before .before .before .before .before .if1 .left) _ (c .before .before .before .before .before .before .all-open .ensures) _ _ _ (c .before .before .before .before .prune .ensures) (c .before .before .before .if2 .left) _ (c .before .lighter .ensures)
 
--- src/order.rt:217:27
 cast-numbers : tie.Need-cast-numbers
 cast-numbers c = search needs
 
--- src/order.rt:217:13
 numbers-requires : tie.Need-numbers-requires
 numbers-requires c κs = search needs
 
--- src/order.rt:218:13
 fill-requires : tie.Need-fill-requires
 fill-requires c κs =
-    first-begins _ _ _ _ (c .before .before .before .before .before .before .before .before .before .before .before .before .before .before .pre) _ (c .before .before .before .before .before .before .before .before .before .before .before .before .closure .ensures) _ (c .before .before .before .before .before .before .before .before .before .before .before .cyclic .ensures) (c .before .before .before .before .before .before .before .before .before .before .if1 .left) _ (c .before .before .before .before .before .before .before .before .before .all-open .ensures) _ _ _ (c .before .before .before .before .before .before .before .prune .ensures) (c .before .before .before .before .before .before .if2 .left) _ _ (c .before .before .before .walk .ensures) (c .before .before .if3 .taken) _ (c .numbers .ensures)
+    first-begins _ _ _ _ (c .before .before .before .before .before .before .before .before .before .before .before .before .before .before .before .pre) _ (c .before .before .before .before .before .before .before .before .before .before .before .before .before .closure .ensures) _ (c .before .before .before .before .before .before .before .before .before .before .before .before .cyclic .ensures) (c .before .before .before .before .before .before .before .before .before .before .before .if1 .left) _ (c .before .before .before .before .before .before .before .before .before .before .all-open .ensures) _ _ _ (c .before .before .before .before .before .before .before .before .prune .ensures) (c .before .before .before .before .before .before .before .if2 .left) _ (c .before .before .before .before .before .lighter .ensures) _ _ (c .before .before .before .walk .ensures) (c .before .before .if3 .taken) _ (c .numbers .ensures)
 
--- src/order.rt:219:9
 returns-3 : tie.Need-returns-3
 returns-3 c =
-    first-some _ _ _ _ (c .before .before .before .before .before .before .before .before .before .before .before .before .before .before .before .pre) _ (c .before .before .before .before .before .before .before .before .before .before .before .before .before .closure .ensures) _ (c .before .before .before .before .before .before .before .before .before .before .before .before .cyclic .ensures) (c .before .before .before .before .before .before .before .before .before .before .before .if1 .left) _ (c .before .before .before .before .before .before .before .before .before .before .all-open .ensures) _ _ _ (c .before .before .before .before .before .before .before .before .prune .ensures) (c .before .before .before .before .before .before .before .if2 .left) _ _ (c .before .before .before .before .walk .ensures) _ (c .fill .ensures)
+    first-some _ _ _ _ (c .before .before .before .before .before .before .before .before .before .before .before .before .before .before .before .before .pre) _ (c .before .before .before .before .before .before .before .before .before .before .before .before .before .before .closure .ensures) _ (c .before .before .before .before .before .before .before .before .before .before .before .before .before .cyclic .ensures) (c .before .before .before .before .before .before .before .before .before .before .before .before .if1 .left) _ (c .before .before .before .before .before .before .before .before .before .before .before .all-open .ensures) _ _ _ (c .before .before .before .before .before .before .before .before .before .prune .ensures) (c .before .before .before .before .before .before .before .before .if2 .left) _ (c .before .before .before .before .before .before .lighter .ensures) _ _ (c .before .before .before .before .walk .ensures) _ (c .fill .ensures)
 
--- src/order.rt:192:1
 returns-4 : tie.Need-returns-4
 returns-4 c =
-    first-none _ _ _ _ (c .before .before .before .before .before .before .before .before .before .before .before .before .pre) _ (c .before .before .before .before .before .before .before .before .before .before .closure .ensures) _ (c .before .before .before .before .before .before .before .before .before .cyclic .ensures) (c .before .before .before .before .before .before .before .before .if1 .left) _ (c .before .before .before .before .before .before .before .all-open .ensures) _ _ _ (c .before .before .before .before .before .prune .ensures) (c .before .before .before .before .if2 .left) _ _ (c .before .walk .ensures) (c .if3 .left) _ refl
+    first-none _ _ _ _ (c .before .before .before .before .before .before .before .before .before .before .before .before .before .pre) _ (c .before .before .before .before .before .before .before .before .before .before .before .closure .ensures) _ (c .before .before .before .before .before .before .before .before .before .before .cyclic .ensures) (c .before .before .before .before .before .before .before .before .before .if1 .left) _ (c .before .before .before .before .before .before .before .before .all-open .ensures) _ _ _ (c .before .before .before .before .before .before .prune .ensures) (c .before .before .before .before .before .if2 .left) _ (c .before .before .before .lighter .ensures) _ _ (c .before .walk .ensures) (c .if3 .left) _ refl
 
 pub first-order-spec : {M : Type 1} → statement M
 first-order-spec =
@@ -70,6 +63,7 @@ first-order-spec =
     all-open-requires
     prune-requires
     returns-2
+    lighter-requires
     walk-requires
     cast-numbers
     numbers-requires
