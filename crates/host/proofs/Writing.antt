@@ -30,7 +30,8 @@ module _ (c : Case) (order table : List ℕ) where
   abbrev code : ℕ
   code = roomCode c (length order) (length table)
 
-  kept : (code ≡ 0 → ⊥) → (order ≡ orderOf c order (length table)) × (table ≡ tableOf c (length order) table)
+  -- where there is no room for one of them
+  pub kept : (code ≡ 0 → ⊥) → (order ≡ orderOf c order (length table)) × (table ≡ tableOf c (length order) table)
   unfolding orderOf tableOf
   kept not0 = (sym (ap (λ b. cond b (orderLeft c order) order) (ne-eqb code 0 not0)), sym (ap (λ b. cond b (filled (valueIn (tableLeft c (replicate 32 0))) 32 table) table) (ne-eqb code 0 not0)))
 
