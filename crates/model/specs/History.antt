@@ -121,7 +121,8 @@ legal h o = isOrder (size h) o && (keepsCabinets h o && everyReadExplained h o)
 unfoldable pub stored : History → List ℕ → ℕ → List ℕ
 stored h table t = fold (λ tb o. set tb (o .key) (o .argument)) table (keep isWrite (operationsOf h t))
 
--- Replay runs the transactions of an order one after another over a table. Its reads change nothing: `explained` says what they see.
+-- Replay runs the transactions one after another: the reads look at the table as earlier transactions left it, then the writes are stored. Reads
+-- change nothing: `explained` says what they see.
 unfoldable pub replay : History → List ℕ → List ℕ → List ℕ
 replay h table o = fold (stored h) table o
 

@@ -6,7 +6,8 @@ use mathlib.Core.Bool.{Bool, true, false, not, cond, _&&_, _||_}
 use mathlib.Core.List.{List, [], _∷_, map}
 use lib.Dec.{T, eqb, ltb}
 use lib.ListN.{length, getD}
--- a constraint is the struct of src/lib.rt: side A is an edge from each source in the mask fromA to toA, and so side B
+-- A constraint has a side A and a side B. A side is a set of sources, as a 32-bit mask, with one target; it means an edge from each source to the
+-- target. Each constraint is a record of these four fields, the struct of src/lib.rt.
 pub use Rattle.model.specs.declared.Constraint.{Constraint}
 use Rattle.model.specs.Lists.{All, all, any, place, keep, firstOr, fold, each, upTo, bit, wordOf}
 use Rattle.model.specs.History.{History, Operation, start, size, cabinetOf, operationsOf, outward, mustPrecede, writes, reads}
@@ -177,7 +178,7 @@ polygraph h e pruning =
 
 -- ---- selections
 
--- a selection: the known edges, with side A of each constraint whose choice is true and side B of each other
+-- A selection takes exactly one side of each constraint and adds its edges to the known ones: side A where its choice is true, else side B.
 unfoldable pub select : List ℕ → List Constraint → List Bool → List ℕ
 select g [] bs = g
 select g (c ∷ cs) [] = g
