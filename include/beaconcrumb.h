@@ -8,7 +8,8 @@
  * Of the caller is asked what C can't test: a pointer is not null and has as many bytes as the length after it says, also where that is 0,
  * and a buffer that a call writes to overlaps nothing else that the call is given.
  *
- * Stack: the search may take some 820 KB, and the lists some 64 KB each (docs/DECISIONS.md), so a thread that calls it should have 4 MB.
+ * Stack: beaconcrumb_decide takes at most some 840 KB, most of it in the search, and the others at most some 180 KB (docs/DECISIONS.md), so a
+ * thread that calls it should have 4 MB.
  *
  * Numbers: 0 done; 1 to 11 the log is refused (document 01, "Refused because of the input"); 12 encoding over 2 or pruning over 1;
  * 13 the order is not every number below T once; 14 more than 4,096 constraints before pruning; 25 a buffer is too short; 255 no, as said below.

@@ -1,7 +1,8 @@
 -- From Load to Decide to Order and Table: what each call finds in the case that the one before gave back. Assumes nothing.
-use Prim.Native.Nat.{ℕ, _-_, _+_, _≤_, _<_}
+use Prim.Native.Nat.{ℕ, _-_, _≤_}
 use native.Mathlib.Omega.{arith}
 use mathlib.Core.Path.{_≡_, refl, sym, ap, ap₂, subst, _∙_}
+use mathlib.Core.Logic.{_≢_}
 use mathlib.Core.Bool.{Bool, true, false, cond, _&&_}
 use mathlib.Core.List.{List, _++_}
 use mathlib.Core.Option.{Option, none, some}
@@ -11,18 +12,31 @@ use lib.Seq.{take-at}
 use Rattle.model.specs.History.{size, isOrder, legal, finalTable}
 use Rattle.model.specs.Log.{loadNumber, transactionsIn}
 use Rattle.model.specs.Lent.{orderNumbers, writtenOrder, writtenTable}
-use Rattle.model.proofs.Basics.{true-eq, false-eq, not-intro, and-in}
+use Rattle.model.proofs.Basics.{true-eq, false-eq, ne-eqb, eq-eqb, not-intro, and-in}
 use Rattle.model.proofs.Loaded.{history-size}
 use Rattle.model.proofs.First.{legal-length, legal-order}
-use Rattle.checker.specs.declared.Stage.{Stage}
-use Rattle.checker.specs.declared.Stage.the-variants.{Loaded, Ordered, NoOrder}
+use Rattle.answers.specs.declared.Stage.{Stage}
+use Rattle.answers.specs.declared.Stage.the-variants.{Loaded, Ordered, NoOrder}
 use Rattle.checker.specs.declared.Case.{Case}
-use Rattle.checker.specs.Cases.{contents, historyIn, orderIn, holdsLog, claimsOrder, counted, stageOf, isFresh, inRoom, loadedCase}
+use Rattle.checker.specs.Cases.{contents, historyIn, orderIn, stageOf, inRoom, loadedCase}
+use Rattle.answers.specs.Stages.{holdsLog, claimsOrder, counted, isFresh}
 use Rattle.checker.specs.Decisions.{decideRefusal, decidedCase}
 use Rattle.checker.specs.Encodings.{encodeRefusal}
-use Rattle.checker.specs.Results.{refusedBy, orderRefused, tableRefused, orderLeft, tableLeft}
+use Rattle.checker.specs.Results.{orderRefused, tableRefused, orderLeft, tableLeft}
+use Rattle.answers.specs.Stages.{refusedBy}
 use Rattle.checker.proofs.Holding.{case-holds}
 use Rattle.checker.proofs.Verdicts.{numbers-of}
+
+-- what stands under a test of a number, where it is 0 and where it is not
+pub taken : {A : Type 0} (n : ℕ) (x y : A) → n ≡ 0 → cond (eqb n 0) x y ≡ x
+taken n x y e = ap (λ b. cond b x y) (true-eq (eqb n 0) (eq-eqb e))
+
+pub refused : {A : Type 0} (n : ℕ) (x y : A) → n ≢ 0 → cond (eqb n 0) x y ≡ y
+refused n x y f = ap (λ b. cond b x y) (false-eq (eqb n 0) (ne-eqb f))
+
+-- a list with room is no 25
+has-room : (n m : ℕ) → m ≤ n → _≡_ {A = ℕ} (cond (ltb n m) 25 0) 0
+has-room n m fits = ap {B = ℕ} (λ b. cond b 25 0) (false-eq (ltb n m) (not-intro (ltb n m) (λ t. omega (arith, ltb→lt n m t))))
 
 -- ---- the case that Load leaves
 
@@ -61,6 +75,20 @@ unfolding stageOf decidedCase counted
 none-stage c e =
     ap (λ (x : Bool). counted NoOrder x (claimsOrder (c .bytes) (c .length) (orderNumbers none))) (true-eq (holdsLog (c .bytes) (c .length)) (case-holds c e))
 
+-- a case that counts as decided with an order: there is 25 alone, and what Order and Table leave is the order and its table
+module _ (c : Case) (ordered : stageOf c ≡ Ordered) where
+  pub ordered-number : (places : ℕ) → orderRefused c places ≡ cond (ltb places (transactionsIn (contents c))) 25 0
+  unfolding orderRefused refusedBy
+  ordered-number places = ap (λ (s : Stage). refusedBy s (transactionsIn (contents c)) places) ordered
+
+  pub order-left : (ys : List ℕ) → transactionsIn (contents c) ≤ length ys → orderLeft c ys ≡ writtenOrder (transactionsIn (contents c)) (c .order) ys
+  unfolding orderLeft
+  order-left ys fits = taken (orderRefused c (length ys)) _ ys (ordered-number (length ys) ∙ has-room (length ys) (transactionsIn (contents c)) fits)
+
+  pub table-left : (ys : List ℕ) → 32 ≤ length ys → tableLeft c ys ≡ writtenTable (historyIn c) (orderIn c) ys
+  unfolding tableLeft tableRefused refusedBy
+  table-left ys fits = taken (tableRefused c (length ys)) _ ys (ap (λ (s : Stage). refusedBy s 32 (length ys)) ordered ∙ has-room (length ys) 32 fits)
+
 module _ (c : Case) (o : List ℕ) (e : isFresh (stageOf c) ≡ false) (l : T (legal (historyIn c) o)) where
   -- the T numbers that are claimed are the order
   pub some-order : orderIn (decidedCase c (some o)) ≡ o
@@ -81,43 +109,28 @@ module _ (c : Case) (o : List ℕ) (e : isFresh (stageOf c) ≡ false) (l : T (l
 
   -- Order writes it, and Table the table which its replay leaves
   pub order-writes : (ys : List ℕ) → length o ≤ length ys → orderLeft (decidedCase c (some o)) ys ≡ o ++ drop (length o) ys
-  unfolding orderLeft orderRefused refusedBy writtenOrder decidedCase
+  unfolding writtenOrder decidedCase
   order-writes ys fits =
-      ap (λ (s : Stage). cond (eqb (refusedBy s n (length ys)) 0) written ys) some-stage
-      ∙ ap (λ (b : Bool). cond (eqb (cond b 25 0) 0) written ys) (false-eq (ltb (length ys) n) (not-intro (ltb (length ys) n) (λ t. over (ltb→lt (length ys) n t))))
+      order-left (decidedCase c (some o)) some-stage ys (omega (arith, len))
       ∙ ap₂ (λ (x : List ℕ) (m : ℕ). x ++ drop m ys) some-order (sym len)
     where
-      n : ℕ
-      n = transactionsIn (contents c)
-
-      written : List ℕ
-      written = take n (orderNumbers (some o)) ++ drop n ys
-
-      len : length o ≡ n
+      len : length o ≡ transactionsIn (contents c)
       len = legal-length (historyIn c) o l ∙ history-size (contents c)
 
-      over : length ys < n → ⊥
-      over k = omega (arith, len)
-
   pub table-writes : (ys : List ℕ) → 32 ≤ length ys → tableLeft (decidedCase c (some o)) ys ≡ finalTable (historyIn c) o ++ drop 32 ys
-  unfolding tableLeft tableRefused refusedBy writtenTable decidedCase
+  unfolding writtenTable decidedCase
   table-writes ys fits =
-      ap (λ (s : Stage). cond (eqb (refusedBy s 32 (length ys)) 0) written ys) some-stage
-      ∙ ap (λ (b : Bool). cond (eqb (cond b 25 0) 0) written ys) (false-eq (ltb (length ys) 32) (not-intro (ltb (length ys) 32) (λ t. over (ltb→lt (length ys) 32 t))))
-      ∙ ap (λ (x : List ℕ). finalTable (historyIn c) x ++ drop 32 ys) some-order
-    where
-      written : List ℕ
-      written = finalTable (historyIn c) (orderIn (decidedCase c (some o))) ++ drop 32 ys
-
-      over : length ys < 32 → ⊥
-      over k = omega arith
+      table-left (decidedCase c (some o)) some-stage ys fits ∙ ap (λ (x : List ℕ). finalTable (historyIn c) x ++ drop 32 ys) some-order
 
 -- ---- a call that is not refused with 22 has a case that isn't fresh
 
-pub not-refused : (c : Case) (e pruning places : ℕ) → decideRefusal c e pruning places ≡ 0 → isFresh (stageOf c) ≡ false
+pub encode-held : (c : Case) (e pruning places words : ℕ) → encodeRefusal c e pruning places words ≡ 0 → isFresh (stageOf c) ≡ false
 unfolding encodeRefusal
-not-refused c e pruning places r = go (isFresh (stageOf c)) _ r
+encode-held c e pruning places words r = go (isFresh (stageOf c)) _ r
   where
     go : (b : Bool) (n : ℕ) → cond b 22 n ≡ 0 → b ≡ false
     go true n r = absurd (omega arith)
     go false n r = refl
+
+pub not-refused : (c : Case) (e pruning places : ℕ) → decideRefusal c e pruning places ≡ 0 → isFresh (stageOf c) ≡ false
+not-refused c e pruning places r = encode-held c e pruning places 32 r

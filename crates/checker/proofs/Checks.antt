@@ -1,62 +1,22 @@
 -- Check's judgement by its tests. Assumes nothing.
 use Prim.Native.Nat.{ℕ}
-use native.Mathlib.Omega.{arith}
 use mathlib.Core.Path.{_≡_, refl, sym, ap, ap₂, _∙_}
-use mathlib.Core.Logic.{_≢_}
 use mathlib.Core.Bool.{Bool, true, false, cond, _&&_}
 use mathlib.Core.List.{List}
-use lib.Dec.{T, eqb, eqb→eq}
-use Rattle.model.specs.History.{size, isOrder, legal}
-use Rattle.model.specs.Log.{transactionsIn, historyOf}
+use lib.Dec.{eqb}
+use Rattle.model.specs.History.{size, legal}
+use Rattle.model.specs.Log.{transactionsIn}
 use Rattle.model.proofs.Loaded.{history-size}
 use Rattle.checker.specs.declared.Case.{Case}
-use Rattle.checker.specs.declared.Judgement.{Judgement}
-use Rattle.checker.specs.declared.Judgement.the-variants.{Legal, Illegal, Refused}
-use Rattle.checker.specs.Cases.{contents, historyIn, stageOf, isFresh}
-use Rattle.checker.specs.Answers.{judgementNumber, judgementYes, judgementOf}
-use Rattle.checker.specs.Calls.{orderRefusal, checkRefusal, checkYes, checking}
+use Rattle.answers.specs.declared.Judgement.{Judgement}
+use Rattle.answers.specs.declared.Judgement.the-variants.{Refused}
+use Rattle.checker.specs.Cases.{contents, historyIn, stageOf}
+use Rattle.answers.specs.Stages.{isFresh}
+use Rattle.answers.specs.Numbers.{judgementOf}
+use Rattle.checker.specs.Calls.{checkRefusal, checkYes, checking}
+use Rattle.answers.specs.Stages.{orderRefusal}
 use Rattle.checker.specs.declared.Checking.{Checking}
-
--- ---- judgements
-
--- the number and the yes or no that a judgement is made of come out of it again
-pub judgement-number : (n : ℕ) (y : Bool) → judgementNumber (judgementOf n y) ≡ n
-unfolding judgementOf
-judgement-number n y = go (eqb n 0) y (λ t. eqb→eq n 0 t)
-  where
-    go : (x z : Bool) → (T x → n ≡ 0) → judgementNumber (cond x (cond z Legal Illegal) (Refused n)) ≡ n
-    go true true f = sym (f tt)
-    go true false f = sym (f tt)
-    go false z f = refl
-
-pub judgement-yes : (n : ℕ) (y : Bool) → judgementYes (judgementOf n y) ≡ (eqb n 0 && y)
-unfolding judgementOf
-judgement-yes n y = go (eqb n 0) y
-  where
-    go : (x z : Bool) → judgementYes (cond x (cond z Legal Illegal) (Refused n)) ≡ (x && z)
-    go true true = refl
-    go true false = refl
-    go false z = refl
-
--- where the number is not 0, yes or no makes no difference
-judgement-only : (n : ℕ) (y : Bool) → judgementOf n (eqb n 0 && y) ≡ judgementOf n y
-unfolding judgementOf
-judgement-only n y = go (eqb n 0)
-  where
-    go : (x : Bool) → cond x (cond (x && y) Legal Illegal) (Refused n) ≡ cond x (cond y Legal Illegal) (Refused n)
-    go true = refl
-    go false = refl
-
--- ---- over a log
-
-module _ (n : ℕ) (o : List ℕ) (y : Bool) where
-  pub judged-none : isOrder n o ≡ false → Refused 13 ≡ judgementOf (orderRefusal n o) y
-  unfolding orderRefusal judgementOf
-  judged-none e = sym (ap (λ b. judgementOf (cond b 0 13) y) e)
-
-  pub judged-some : (x : Bool) → isOrder n o ≡ true → y ≡ x → cond x Legal Illegal ≡ judgementOf (orderRefusal n o) y
-  unfolding orderRefusal judgementOf
-  judged-some x e f = sym (ap₂ (λ b z. judgementOf (cond b 0 13) z) e f)
+use Rattle.answers.proofs.Answering.{judgement-only}
 
 -- ---- over a case
 

@@ -1,36 +1,26 @@
 -- Demands 1, 2 and 3 of the calls, in the demands' own words, over what each call gives and leaves (`specs/`). The contracts in `src/lib.rt` are
 -- equations with these definitions, so that what is said here is said of the calls. Each theorem cites the law that proves it. Assumes nothing.
-use Prim.Native.Nat.{ℕ, _≤_}
-use mathlib.Core.Path.{_≡_, ap, _∙_}
+use Prim.Native.Nat.{ℕ}
+use mathlib.Core.Path.{_≡_, ap, subst, _∙_}
 use mathlib.Core.Logic.{_≢_}
-use mathlib.Core.Bool.{cond, _&&_}
-use mathlib.Core.List.{List, _++_}
-use mathlib.Core.Option.{some}
+use mathlib.Core.Bool.{_&&_}
+use mathlib.Core.List.{List}
 use lib.Dec.{eqb}
-use lib.ListN.{length, drop}
+use lib.ListN.{length}
 use Rattle.model.specs.declared.Constraint.{Constraint}
-use Rattle.model.specs.History.{legal, finalTable}
+use Rattle.model.specs.History.{History, legal}
 use Rattle.model.specs.Log.{historyOf}
 use Rattle.model.specs.Lent.{encodedList, encodedRows}
-use Rattle.model.specs.Search.{firstLegal}
-use Rattle.model.proofs.Basics.{false-eq, true-eq, ne-eqb, eq-eqb}
-use Rattle.model.proofs.First.{first-some}
+use Rattle.model.proofs.Basics.{true-eq, eq-eqb}
 use Rattle.checker.specs.declared.Case.{Case}
-use Rattle.checker.specs.declared.Decision.{Decision}
 use Rattle.checker.specs.Cases.{contents, historyIn, loadedCase}
 use Rattle.checker.specs.Calls.{loadRefusal, caseAfterLoad, checkRefusal, checkYes}
 use Rattle.checker.specs.Encodings.{encodeRefusal, encodeList, encodeRows}
-use Rattle.checker.specs.Decisions.{decideRefusal, decided, decidedCase, refusedDecision, deciding, listAfterDecide, Answers}
+use Rattle.checker.specs.Decisions.{decideRefusal, refusedDecision, deciding, listAfterDecide}
 use Rattle.checker.specs.Results.{orderRefused, tableRefused, orderLeft, tableLeft}
-use Rattle.checker.proofs.Verdicts.{deciding-answers}
-use Rattle.checker.proofs.Chain.{load-holds, not-refused, decided-contents, order-writes, table-writes}
-
--- what stands under a test of a number, where it is 0 and where it is not
-taken : {A : Type 0} (n : ℕ) (x y : A) → n ≡ 0 → cond (eqb n 0) x y ≡ x
-taken n x y e = ap (λ b. cond b x y) (true-eq (eqb n 0) (eq-eqb e))
-
-refused : {A : Type 0} (n : ℕ) (x y : A) → n ≢ 0 → cond (eqb n 0) x y ≡ y
-refused n x y f = ap (λ b. cond b x y) (false-eq (eqb n 0) (ne-eqb f))
+use Rattle.checker.specs.Demand.{Settles, Demand3}
+use Rattle.checker.proofs.Chain.{taken, refused, load-holds}
+use Rattle.checker.proofs.Whole.{read-back, read-back-selects, decide-lists, decision-settles, same-history, again-settles, again-same, load-counts, load-history}
 
 -- ---- Demand 1: each call ends and is safe (the gate proves that of every function); a refusal bears its number, and case and lent lists are
 -- the same bytes after it.
@@ -85,32 +75,23 @@ pub check-accepts-exactly-the-legal : (c : Case) (o : List ℕ) → checkRefusal
 unfolding checkYes
 check-accepts-exactly-the-legal c o e = ap (λ b. b && legal (historyIn c) o) (true-eq (eqb (checkRefusal c o) 0) (eq-eqb e))
 
--- ---- Demand 3: 'no order' exactly where no legal order exists; otherwise the legal order that has, against every other legal one, the lower
--- number at the first place where the two differ; and Order and Table then write it and the table which its replay leaves. In all six settings,
--- whatever was decided before and whatever the lists held.
+-- ---- Demand 3, in one piece: `Demand3` in specs/Demand.antt says it. What Encode hands out is the polygraph, and has an acyclic selection exactly
+-- when a legal order exists; Decide says 'no order' exactly where none exists, and else gives the legal order that has, against every other legal
+-- one, the lower number at the first place where the two differ; Order and Table then write it and the table which its replay leaves. In all six
+-- settings, whatever was decided before and whatever the lists held, and from the log's bytes on.
 
-pub decide-answers : (c : Case) (e pruning places : ℕ) → let d = deciding c e pruning places in Answers (historyIn c) (d .verdict) (d .order)
-decide-answers c e pruning places = deciding-answers c e pruning places
-
-module _ (c : Case) (e pruning places : ℕ) (runs : decideRefusal c e pruning places ≡ 0) where
-  abbrev after : Case
-  after = deciding c e pruning places .case
-
-  after-is : after ≡ decidedCase c (firstLegal (historyIn c))
-  unfolding deciding decided
-  after-is = ap (λ (d : Decision). d .case) (taken (decideRefusal c e pruning places) _ (refusedDecision c (decideRefusal c e pruning places)) runs)
-
-  -- the log is still there, so that Decide may be repeated
-  pub decide-keeps-the-log : contents after ≡ contents c
-  decide-keeps-the-log = ap contents after-is ∙ decided-contents c (firstLegal (historyIn c))
-
-  module _ (o : List ℕ) (first : firstLegal (historyIn c) ≡ some o) where
-    pub order-writes-it : (ys : List ℕ) → length o ≤ length ys → orderLeft after ys ≡ o ++ drop (length o) ys
-    order-writes-it ys fits =
-        ap (λ (x : Case). orderLeft x ys) (after-is ∙ ap (decidedCase c) first)
-        ∙ order-writes c o (not-refused c e pruning places runs) (first-some (historyIn c) o first .0) ys fits
-
-    pub table-writes-its-replay : (ys : List ℕ) → 32 ≤ length ys → tableLeft after ys ≡ finalTable (historyIn c) o ++ drop 32 ys
-    table-writes-its-replay ys fits =
-        ap (λ (x : Case). tableLeft x ys) (after-is ∙ ap (decidedCase c) first)
-        ∙ table-writes c o (not-refused c e pruning places runs) (first-some (historyIn c) o first .0) ys fits
+pub demand-3 : Demand3
+demand-3 = record {
+  whole = λ c e pruning ys ws. record {
+    handed-out = read-back c e pruning ys ws;
+    selection = read-back-selects c e pruning ys ws;
+    listed = decide-lists c e pruning ys;
+    settles = decision-settles c e pruning (length ys);
+    again = λ runs e′ pruning′ places runs′. (same-history c e pruning (length ys) runs, again-settles c e pruning (length ys) runs e′ pruning′ places runs′, again-same c e pruning (length ys) runs e′ pruning′ places runs′);
+  };
+  bytes = λ c b runs. record {
+    loaded = load-counts c b runs;
+    holds = load-history c b runs;
+    settles = λ e pruning places r. subst (λ (h : History). Settles h (deciding (caseAfterLoad c b) e pruning places)) (load-history c b runs) (decision-settles (caseAfterLoad c b) e pruning places r);
+  };
+}

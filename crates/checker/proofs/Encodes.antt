@@ -1,49 +1,40 @@
 -- Encode's tests in their order, and what it gives and leaves. Assumes nothing.
 --     plans-fresh, plans-setting, plans-counted        what is decided before anything is written, by the tests
 --     encodes-refused, encodes-done        the call, refused and not
-use Prim.Native.Nat.{ℕ, zero, suc, _≤_, _<_}
+use Prim.Native.Nat.{ℕ, _≤_}
 use native.Mathlib.Omega.{arith}
-use mathlib.Core.Path.{_≡_, refl, sym, ap, ap₂, subst, _∙_}
+use mathlib.Core.Path.{_≡_, refl, sym, ap, ap₂, _∙_}
 use mathlib.Core.Logic.{_≢_}
 use mathlib.Core.Bool.{Bool, true, false, not, cond}
-use mathlib.Core.List.{List, [], _∷_, _++_}
-use lib.Dec.{T, eqb, ltb, nltb→le, eqb·suc-zero}
+use mathlib.Core.List.{List, _++_}
+use lib.Dec.{T, eqb, ltb, nltb→le}
 use lib.ListN.{length, take, drop}
 use lib.Seq.{take-length}
 use borrow.Author.Tests.{eq-eqb, ne-eqb}
-use Rattle.model.specs.Polygraph.{constraints, polygraph}
+use Rattle.model.specs.Polygraph.{constraints}
 use Rattle.model.specs.Lent.{encodedList, encodedRows, encodedCount}
 use Rattle.model.specs.declared.Constraint.{Constraint}
-use Rattle.model.proofs.Loaded.{loadable-log}
-use Rattle.encoding.specs.Writing.{Planned, Ready, Encoded}
-use Rattle.encoding.proofs.Laws.{ready}
+use Rattle.encoding.specs.Writing.{Planned, Encoded}
 use Rattle.pruning.specs.declared.Pruned.{Pruned}
 use Rattle.checker.specs.declared.Case.{Case}
-use Rattle.checker.specs.declared.Reply.the-variants.{Taken, Refused}
 use Rattle.checker.specs.declared.Encoding.{Encoding}
 use Rattle.checker.specs.declared.polygraphs.Planning.{Planning}
-use Rattle.checker.specs.Cases.{contents, historyIn, stageOf, isFresh, copied}
-use Rattle.checker.specs.Answers.{numberOf, replyOf}
-use Rattle.checker.specs.Encodings.{settingRefusal, placesRefusal, encodeRefusal, encodeAnswer, encodeList, encodeRows, Encodes, Plans}
-use Rattle.checker.proofs.Holding.{case-loads}
+use Rattle.checker.specs.Cases.{historyIn, stageOf}
+use Rattle.answers.specs.Stages.{isFresh}
+use Rattle.answers.specs.Copies.{copied}
+use Rattle.answers.specs.Numbers.{numberOf, replyOf}
+use Rattle.checker.specs.Encodings.{encodeRefusal, encodeAnswer, encodeList, encodeRows, Encodes, Plans}
+use Rattle.answers.specs.Settings.{settingRefusal, placesRefusal}
+use Rattle.answers.proofs.Answering.{number-reply, places-zero}
 
-pub setting-zero : (e pruning : ℕ) → settingRefusal e pruning ≡ 0 → e ≤ 2
-unfolding settingRefusal
-setting-zero e pruning = go (ltb 2 e) (λ t. nltb→le 2 e t)
-  where
-    go : (b : Bool) → (T (not b) → e ≤ 2) → _≡_ {A = ℕ} (cond b 12 (cond (ltb 1 pruning) 12 0)) 0 → e ≤ 2
-    go true f z = absurd (omega arith)
-    go false f z = f tt
-
-places-zero : (n places words : ℕ) → placesRefusal n places words ≡ 0 → (n ≤ places) × (32 ≤ words)
+-- where the places are not refused, the constraints are at most 4,096
+places-few : (n places words : ℕ) → placesRefusal n places words ≡ 0 → n ≤ 4096
 unfolding placesRefusal
-places-zero n places words = go (ltb 4096 n) (ltb places n) (ltb words 32) (λ t. nltb→le places n t) (λ t. nltb→le words 32 t)
+places-few n places words = go (ltb 4096 n) (λ t. nltb→le 4096 n t)
   where
-    go : (a b c : Bool) → (T (not b) → n ≤ places) → (T (not c) → 32 ≤ words) → _≡_ {A = ℕ} (cond a 14 (cond b 25 (cond c 25 0))) 0 → (n ≤ places) × (32 ≤ words)
-    go true b c f g z = absurd (omega arith)
-    go false true c f g z = absurd (omega arith)
-    go false false true f g z = absurd (omega arith)
-    go false false false f g z = (f tt, g tt)
+    go : (a : Bool) → (T (not a) → n ≤ 4096) → _≡_ {A = ℕ} (cond a 14 (cond (ltb places n) 25 (cond (ltb words 32) 25 0))) 0 → n ≤ 4096
+    go true f z = absurd (omega (arith, z))
+    go false f z = f tt
 
 module _ (c : Case) (e pruning places words : ℕ) where
   -- the number, by the first two tests
@@ -63,23 +54,18 @@ module _ (c : Case) (e pruning places words : ℕ) where
   pub plans-setting : (r : Planning) → isFresh (stageOf c) ≡ false → settingRefusal e pruning ≢ 0 → r .number ≡ settingRefusal e pruning → Plans c e pruning places words r
   plans-setting r p ne n = refused r (n ∙ sym (refusal-is false false p (ne-eqb (settingRefusal e pruning) 0 ne))) (λ z. ne (sym n ∙ z))
 
-  pub plans-counted : (r : Planning) → isFresh (stageOf c) ≡ false → settingRefusal e pruning ≡ 0 → Planned (historyIn c) e (r .words) (r .rows) (r .count) → r .number ≡ placesRefusal (r .count) places words → Plans c e pruning places words r
+  pub plans-counted : (r : Planning) → isFresh (stageOf c) ≡ false → settingRefusal e pruning ≡ 0 → Planned (historyIn c) e (r .tables) (r .chosen) (r .rows) (r .count) → r .number ≡ placesRefusal (r .count) places words → Plans c e pruning places words r
   plans-counted r p z plan n =
       let is : r .number ≡ encodeRefusal c e pruning places words =
-      n ∙ ap (λ (k : ℕ). placesRefusal k places words) (plan .count-is) ∙ sym (refusal-is false true p (eq-eqb (settingRefusal e pruning) 0 z)) in
+      n ∙ ap (λ (k : ℕ). placesRefusal k places words) (plan .chosen-are .count-is) ∙ sym (refusal-is false true p (eq-eqb (settingRefusal e pruning) 0 z)) in
       record {
         number-is = is;
         plan = λ _. plan;
-        ready = λ q. ready (historyIn c) e (r .words) (r .rows) (r .count) places (loadable-log (contents c) (case-loads c p)) plan (places-zero (r .count) places words (sym n ∙ q) .0);
+        ready = λ q. record { few = places-few (r .count) places words (sym n ∙ q); fits = places-zero (r .count) places words (sym n ∙ q) .0 };
         room = λ q. places-zero (r .count) places words (sym n ∙ q) .1;
       }
 
 -- ---- the call
-
-number-reply : (n : ℕ) → numberOf (replyOf n) ≡ n
-unfolding replyOf
-number-reply zero = refl
-number-reply (suc n) = ap (λ (b : Bool). numberOf (cond b Taken (Refused (suc n)))) (eqb·suc-zero n)
 
 abbrev pub answered : Case → ℕ → ℕ → Encoding
 answered c number left = record { case = c; reply = replyOf number; left = left }

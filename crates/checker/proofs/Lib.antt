@@ -1,4 +1,3 @@
-pub mod Copying
 pub mod Holding
 pub mod Loads
 pub mod Checks
@@ -8,6 +7,7 @@ pub mod Data
 pub mod Callees
 pub mod Verdicts
 pub mod Chain
+pub mod Whole
 pub mod Demands
 pub mod Preparing
 pub mod Lending

@@ -1,30 +1,21 @@
 -- Load's answer by its tests. Assumes nothing.
 use Prim.Native.Nat.{ℕ}
 use native.Mathlib.Omega.{arith}
-use mathlib.Core.Path.{_≡_, refl, sym, ap, ap₂, _∙_}
+use mathlib.Core.Path.{_≡_, sym, ap, ap₂, _∙_}
 use mathlib.Core.Logic.{_≢_}
 use mathlib.Core.Bool.{Bool, true, false, cond}
 use mathlib.Core.List.{List}
-use lib.Dec.{eqb}
 use borrow.Author.Tests.{eq-eqb, ne-eqb}
 use Rattle.model.specs.Log.{loadNumber}
 use Rattle.checker.specs.declared.Case.{Case}
 use Rattle.checker.specs.declared.Answer.{Answer}
-use Rattle.checker.specs.declared.Reply.{Reply}
-use Rattle.checker.specs.declared.Reply.the-variants.{Taken, Refused}
-use Rattle.checker.specs.Cases.{stageOf, isFresh, loadedCase}
-use Rattle.checker.specs.Answers.{replyOf}
+use Rattle.answers.specs.declared.Reply.{Reply}
+use Rattle.answers.specs.declared.Reply.the-variants.{Taken, Refused}
+use Rattle.checker.specs.Cases.{stageOf, loadedCase}
+use Rattle.answers.specs.Stages.{isFresh}
+use Rattle.answers.specs.Numbers.{replyOf}
 use Rattle.checker.specs.Calls.{loadRefusal, caseAfterLoad, loading}
-
--- ---- replies
-
-pub reply-none : (n : ℕ) → n ≡ 0 → replyOf n ≡ Taken
-unfolding replyOf
-reply-none n e = ap (λ b. cond b Taken (Refused n)) (eq-eqb n 0 e)
-
-pub reply-some : (n : ℕ) → n ≢ 0 → replyOf n ≡ Refused n
-unfolding replyOf
-reply-some n f = ap (λ b. cond b Taken (Refused n)) (ne-eqb n 0 f)
+use Rattle.answers.proofs.Answering.{reply-none, reply-some}
 
 -- ---- the number
 

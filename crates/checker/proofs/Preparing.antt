@@ -1,242 +1,153 @@
--- What is found out before Encode or Decide writes anything, and what writing it comes to. Assumes nothing.
-use Prim.Native.Nat.{ℕ, zero, suc, _/_, _%_, _-_, _≤_, _<_}
+-- What Decide finds before it writes anything, and what writing and answering come to. Assumes nothing.
+use Prim.Native.Nat.{ℕ, _-_}
 use native.Mathlib.Omega.{arith}
-use mathlib.Core.Path.{_≡_, refl, sym, ap, subst, _∙_}
-use mathlib.Core.Logic.{_⊎_, ⊎-elim, _≢_}
-use mathlib.Core.Bool.{Bool, true, false, not, cond}
-use mathlib.Core.List.{List, [], _∷_, _++_, map}
-use lib.Dec.{T, eqb, ltb, eqb→eq, nltb→le}
-use lib.ListN.{length, getD, drop, replicate}
+use mathlib.Core.Path.{_≡_, refl, sym, ap, ap₂, subst, _∙_}
+use mathlib.Core.Logic.{⊎-elim, _≢_}
+use mathlib.Core.Bool.{Bool, true, false, cond}
+use mathlib.Core.List.{List, _++_}
+use mathlib.Core.Option.{Option, none, some}
+use lib.ListN.{length, drop, replicate}
 use borrow.Author.Tests.{eq-eqb, ne-eqb}
-use Rattle.model.specs.Lists.{All, keep, upTo, bit}
-use Rattle.model.specs.History.{History, Operation, operationsOf}
-use Rattle.model.specs.Polygraph.{edge, rows, between, joined, constraints, Polygraph, passes, unpruned, polygraph}
+use Rattle.model.specs.History.{History}
 use Rattle.model.specs.declared.Constraint.{Constraint}
-use Rattle.model.specs.Lent.{encodedList, encodedCount, noConstraint}
+use Rattle.model.specs.Lent.{encodedList, encodedCount, orderNumbers, noConstraint}
 use Rattle.model.specs.Search.{firstLegal}
-use Rattle.model.proofs.Basics.{same?, eqb-ne}
-use Rattle.model.proofs.Masks.{bit-none}
-use Rattle.listing.specs.Candidates.{wantedBy, itemBy, listUpTo, listBy}
-use Rattle.pruning.specs.declared.Pruned.{Pruned}
-use Rattle.encoding.specs.Writing.{Planned, Encoded}
-use Rattle.encoding.proofs.Laws.{ready}
+use Rattle.model.proofs.Basics.{same?}
+use Rattle.listing.specs.Candidates.{itemsBy}
+use Rattle.decision.specs.Answer.{isSome}
+use Rattle.answers.specs.Numbers.{verdictNumber}
+use Rattle.answers.specs.Settings.{polygraphRefusal}
+use Rattle.answers.specs.Stages.{isFresh}
+use Rattle.answers.specs.Finding.{Finds, refusedOutcome}
+use Rattle.answers.specs.declared.deciding.Outcome.{Outcome}
+use Rattle.answers.proofs.Finding.{refused-finds}
 use Rattle.checker.specs.declared.Case.{Case}
 use Rattle.checker.specs.declared.Decision.{Decision}
 use Rattle.checker.specs.declared.deciding.Prepared.{Prepared}
-use Rattle.checker.specs.declared.polygraphs.Planning.{Planning}
-use Rattle.checker.specs.declared.Stage.{Stage}
-use Rattle.checker.specs.declared.Stage.the-variants.{Ordered, NoOrder}
-use Rattle.checker.specs.declared.Verdict.{Verdict}
-use Rattle.checker.specs.declared.Verdict.the-variants.{Order, Without}
-use Rattle.search.specs.declared.order.Found.{Found}
-use Rattle.decision.specs.Answer.{PlannedIn, isSome, firstAnswer}
-use mathlib.Core.Option.{Option, none, some}
-use Rattle.model.specs.Lent.{orderNumbers}
-use Rattle.checker.specs.Encodings.{settingRefusal, placesRefusal, encodeRefusal, Plans}
-use Rattle.checker.specs.Cases.{historyIn, stageOf, isFresh}
-use Rattle.checker.specs.Decisions.{decideRefusal, decidedCase, decided, refusedDecision, deciding, listAfterDecide, verdictNumber, Answers, Decides}
-use Rattle.checker.specs.Preparing.{PreparedFor, EmptyPlan, answering}
-use Rattle.checker.proofs.Encodes.{setting-zero}
+use Rattle.checker.specs.Cases.{historyIn, stageOf}
+use Rattle.checker.specs.Encodings.{encodeRefusal}
+use Rattle.checker.specs.Decisions.{decideRefusal, decidedCase, decided, refusedDecision, deciding, listAfterDecide, Answers, Decides}
+use Rattle.checker.specs.Preparing.{outcomeIn, stageBy, verdictBy, storing, answering, foundBy}
 use Rattle.checker.proofs.Verdicts.{deciding-answers, deciding-number}
 
--- ---- nothing to write
+-- ---- what is found, by the first test
 
-keep-none : (p : ℕ → Bool) (xs : List ℕ) → ((x : ℕ) → p x ≡ false) → keep p xs ≡ []
-keep-none p [] f = refl
-keep-none p (x ∷ xs) f = ap (λ b. cond b (x ∷ keep p xs) (keep p xs)) (f x) ∙ keep-none p xs f
+module _ (c : Case) (e pruning places : ℕ) (t ks : List ℕ) (r : Outcome) where
+  pub fresh-finds : isFresh (stageOf c) ≡ true → r ≡ refusedOutcome 22 → Finds (decideRefusal c e pruning places) (historyIn c) e pruning places t ks r
+  unfolding encodeRefusal
+  fresh-finds f q =
+      subst (Finds (decideRefusal c e pruning places) (historyIn c) e pruning places t ks) (sym q)
+      (refused-finds (historyIn c) e pruning places t ks (decideRefusal c e pruning places) 22 (λ z. omega arith)
+      (sym (ap (λ b. cond b 22 (polygraphRefusal (historyIn c) e pruning places 32)) f)))
 
-zero-at : (n i : ℕ) → _≡_ {A = ℕ} (getD (replicate n 0) i 0) 0
-zero-at zero i = refl
-zero-at (suc n) zero = refl
-zero-at (suc n) (suc i) = zero-at n i
+  pub held-finds : isFresh (stageOf c) ≡ false → Finds (polygraphRefusal (historyIn c) e pruning places 32) (historyIn c) e pruning places t ks r
+      → Finds (decideRefusal c e pruning places) (historyIn c) e pruning places t ks r
+  unfolding encodeRefusal
+  held-finds f x =
+      subst (λ n. Finds n (historyIn c) e pruning places t ks r) (sym (ap (λ b. cond b 22 (polygraphRefusal (historyIn c) e pruning places 32)) f)) x
 
-wanted-none : (t : List ℕ) (c : ℕ) → getD t (c / 32) 0 ≡ 0 → wantedBy t c ≡ false
-unfolding wantedBy
-wanted-none t c e = ap (λ w. bit w (c % 32)) e ∙ bit-none (c % 32)
+-- ---- the case and the answer, by the tests
 
-none-listed : (t : List ℕ) (n : ℕ) → ((c : ℕ) → wantedBy t c ≡ false) → listUpTo t n ≡ []
-unfolding listUpTo
-none-listed t n f = ap (map (itemBy t)) (keep-none (wantedBy t) (upTo n) f)
+module _ (c : Case) (number : ℕ) (found : Bool) (order : List ℕ) where
+  abbrev stored : Bool → Case
+  stored b = record { stage = stageBy b; bytes = c .bytes; length = c .length; order = order }
 
-no-tables : listBy (replicate 3073 0) ≡ []
-unfolding listBy
-no-tables = none-listed (replicate 3073 0) 32768 unwanted
-  where
-    unwanted : (c : ℕ) → wantedBy (replicate 3073 0) c ≡ false
-    unwanted c = wanted-none (replicate 3073 0) c (zero-at 3073 (c / 32))
+  pub stored-refused : number ≢ 0 → c ≡ storing c number found order
+  unfolding storing
+  stored-refused f = sym (ap (λ b. cond b (stored found) c) (ne-eqb number 0 f))
 
-no-constraints : constraints [] 1 ≡ []
-unfolding constraints joined between
-no-constraints = refl
+  pub stored-found : (b : Bool) → number ≡ 0 → found ≡ b → record { stage = stageBy b; bytes = c .bytes; length = c .length; order = order } ≡ storing c number found order
+  unfolding storing
+  stored-found b z e = ap stored (sym e) ∙ sym (ap (λ b. cond b (stored found) c) (eq-eqb number 0 z))
 
-no-rows : replicate 32 0 ≡ rows [] 1
-unfolding rows edge
-no-rows = refl
+  module _ (left : ℕ) where
+    abbrev said : Bool → Decision
+    said b = record { case = c; verdict = verdictBy b; order = order; left = left }
 
-either : (b : Bool) (p : Polygraph) → cond b p p ≡ p
-either true p = refl
-either false p = refl
+    pub answer-refused : number ≢ 0 → refusedDecision c number ≡ answering c number found order left
+    unfolding answering
+    answer-refused f = sym (ap (λ b. cond b (said found) (refusedDecision c number)) (ne-eqb number 0 f))
 
-no-pruning : (pruning : ℕ) → polygraph [] 1 pruning ≡ unpruned [] 1
-unfolding polygraph passes constraints joined between
-no-pruning pruning = either (eqb pruning 1) (unpruned [] 1)
+    pub answer-found : (b : Bool) → number ≡ 0 → found ≡ b → record { case = c; verdict = verdictBy b; order = order; left = left } ≡ answering c number found order left
+    unfolding answering
+    answer-found b z e = ap said (sym e) ∙ sym (ap (λ b. cond b (said found) (refusedDecision c number)) (eq-eqb number 0 z))
 
--- of an empty history nothing is written
-nothing-encoded : (pruning : ℕ) (ys : List Constraint) → encodedList [] 1 pruning ys ≡ ys
-unfolding encodedList constraints joined between
-nothing-encoded pruning ys =
-    ap (λ (q : Polygraph). q .choices ++ (replicate (length (constraints [] 1) - length (q .choices)) noConstraint ++ drop (length (constraints [] 1)) ys)) (no-pruning pruning)
+-- both together: the case with the first legal order stored, or with 'no order', and the answer that says so
+decided-by : (c : Case) (x : Option (List ℕ)) (left : ℕ)
+    → foundBy c 0 (isSome x) (orderNumbers x) left ≡ decided c x left
+unfolding answering storing decided decidedCase isSome
+decided-by c none left = refl
+decided-by c (some o) left = refl
 
-pub empty-plan : (number : ℕ)
-    → EmptyPlan number (record { number = number; words = replicate 3073 0; rows = replicate 32 0; count = 0; pruning = 0 })
-empty-plan number = record {
-  number-is = refl;
-  count-is = refl;
-  plan = record { lists = no-tables ∙ sym no-constraints; rows-are = no-rows; count-is = ap length (sym no-constraints) };
-}
+-- ---- what Decide gives, by what was found
 
--- ---- what is found out
+module _ (c : Case) (e pruning places : ℕ) (t ks : List ℕ) (r : Outcome)
+    (finds : Finds (decideRefusal c e pruning places) (historyIn c) e pruning places t ks r) where
+  abbrev refusal : ℕ
+  refusal = decideRefusal c e pruning places
 
-module _ (c : Case) (e pruning places : ℕ) (p : Prepared) where
-  -- a refusal with nothing to write
-  pub refused-for : (number : ℕ) → number ≢ 0 → number ≡ decideRefusal c e pruning places → EmptyPlan number p → PreparedFor c e pruning places p
-  refused-for number nz is q = record {
-    number-is = q .number-is ∙ is;
-    ready = ready [] 1 (p .words) (p .rows) (p .count) places (record { few = omega arith; keys = λ t. nobody t }) (q .plan) (omega (arith, q .count-is));
-    plan = λ z. absurd (nz (sym (q .number-is) ∙ z));
-    none = λ z. q .plan;
-  }
-    where
-      nobody : (t : ℕ) → All (λ (r : Operation). r .key < 32) (operationsOf [] t)
-      nobody zero = tt
-      nobody (suc t) = tt
+  abbrev first : Option (List ℕ)
+  first = firstLegal (historyIn c)
 
--- the struct that the code gives
-abbrev answerWith : Case → Stage → Verdict → List ℕ → ℕ → Decision
-answerWith c stage verdict order left =
-    record { case = record { stage = stage; bytes = c .bytes; length = c .length; order = order }; verdict = verdict; order = order; left = left }
+  abbrev told : ℕ → Decision
+  told n = foundBy c n (r .found) (r .order) (r .left)
 
-with-some : (c : Case) (o : List ℕ) (left : ℕ) → answerWith c Ordered Order (orderNumbers (some o)) left ≡ decided c (some o) left
-unfolding decided decidedCase
-with-some c o left = refl
+  told-refused : refusal ≢ 0 → told refusal ≡ refusedDecision c refusal
+  told-refused f =
+      sym (answer-refused (storing c refusal (r .found) (r .order)) refusal (r .found) (r .order) (r .left) f)
+      ∙ ap (λ (k : Case). refusedDecision k refusal) (sym (stored-refused c refusal (r .found) (r .order) f))
 
-with-none : (c : Case) (left : ℕ) → answerWith c NoOrder Without (orderNumbers none) left ≡ decided c none left
-unfolding decided decidedCase
-with-none c left = refl
+  told-found : refusal ≡ 0 → told refusal ≡ decided c first (encodedCount (historyIn c) e pruning)
+  told-found z =
+      let q : r .number ≡ 0 = finds .number-is ∙ z in
+      ap told z ∙ ap₂ (λ b o. foundBy c 0 b o (r .left)) (finds .found-is q) (finds .order-is q) ∙ ap (foundBy c 0 (isSome first) (orderNumbers first)) (finds .left-is q)
+      ∙ decided-by c first (encodedCount (historyIn c) e pruning)
 
-no-some : isSome none ≡ true → ⊥
-unfolding isSome
-no-some e = subst T (sym e) tt
+  pub found-decision : foundBy c (r .number) (r .found) (r .order) (r .left) ≡ deciding c e pruning places
+  unfolding deciding
+  found-decision =
+      ap told (finds .number-is)
+      ∙ ⊎-elim
+      (λ (z : refusal ≡ 0). told-found z ∙ sym (ap (λ b. cond b (decided c first (encodedCount (historyIn c) e pruning)) (refusedDecision c refusal)) (eq-eqb refusal 0 z)))
+      (λ (z : refusal ≢ 0). told-refused z ∙ sym (ap (λ b. cond b (decided c first (encodedCount (historyIn c) e pruning)) (refusedDecision c refusal)) (ne-eqb refusal 0 z)))
+      (same? refusal 0)
 
-no-none : (o : List ℕ) → isSome (some o) ≡ false → ⊥
-unfolding isSome
-no-none o e = subst T e tt
+-- ---- what Decide leaves, with that
 
--- a plan to be written
-pub planned-for : (c : Case) (e pruning places : ℕ) (q : Planning) → Plans c e pruning places 32 q → q .number ≡ 0
-    → PreparedFor c e pruning places (record { number = q .number; words = q .words; rows = q .rows; count = q .count; pruning = pruning })
-planned-for c e pruning places q p z = record { number-is = p .number-is; ready = p .ready z; plan = λ y. (p .plan y, refl); none = λ f. absurd (f z) }
-
--- ---- the answer
-
-pub refused-answer : (c : Case) (number left : ℕ) → number ≢ 0 → refusedDecision c number ≡ answering c number left
-unfolding answering
-refused-answer c number left f = sym (ap (λ b. cond b (decided c (firstLegal (historyIn c)) left) (refusedDecision c number)) (ne-eqb number 0 f))
-
-module _ (c : Case) (number left : ℕ) (z : number ≡ 0) (f : Found) (is : f ≡ firstAnswer (historyIn c)) where
-  taken-answer : decided c (firstLegal (historyIn c)) left ≡ answering c number left
-  unfolding answering
-  taken-answer = sym (ap (λ b. cond b (decided c (firstLegal (historyIn c)) left) (refusedDecision c number)) (eq-eqb number 0 z))
-
-  order-is : f .order ≡ orderNumbers (firstLegal (historyIn c))
-  unfolding firstAnswer
-  order-is = ap (λ (x : Found). x .order) is
-
-  some-is : f .found ≡ isSome (firstLegal (historyIn c))
-  unfolding firstAnswer
-  some-is = ap (λ (x : Found). x .found) is
-
-  pub found-answer : f .found ≡ true → answerWith c Ordered Order (f .order) left ≡ answering c number left
-  found-answer t = ap (λ o. answerWith c Ordered Order o left) order-is ∙ go (firstLegal (historyIn c)) (sym some-is ∙ t) ∙ taken-answer
-    where
-      go : (x : Option (List ℕ)) → isSome x ≡ true → answerWith c Ordered Order (orderNumbers x) left ≡ decided c x left
-      go none e = absurd (no-some e)
-      go (some o) e = with-some c o left
-
-  pub none-answer : f .found ≡ false → answerWith c NoOrder Without (f .order) left ≡ answering c number left
-  none-answer t = ap (λ o. answerWith c NoOrder Without o left) order-is ∙ go (firstLegal (historyIn c)) (sym some-is ∙ t) ∙ taken-answer
-    where
-      go : (x : Option (List ℕ)) → isSome x ≡ false → answerWith c NoOrder Without (orderNumbers x) left ≡ decided c x left
-      go none e = with-none c left
-      go (some o) e = absurd (no-none o e)
-
--- ---- what is known where nothing is refused
-
-allowed : (c : Case) (e pruning places : ℕ) → decideRefusal c e pruning places ≡ 0
-    → (isFresh (stageOf c) ≡ false) × (e < 3) × (length (constraints (historyIn c) e) ≤ 4096)
-unfolding encodeRefusal placesRefusal
-allowed c e pruning places =
-    go (isFresh (stageOf c)) (eqb (settingRefusal e pruning) 0) (ltb 4096 n) (ltb places n) (λ t. eqb→eq (settingRefusal e pruning) 0 t) (λ t z. eqb-ne t z) (λ t. nltb→le 4096 n t)
-  where
-    n : ℕ
-    n = length (constraints (historyIn c) e)
-
-    go : (f s m l : Bool) → (T s → settingRefusal e pruning ≡ 0) → (T (not s) → settingRefusal e pruning ≡ 0 → ⊥) → (T (not m) → n ≤ 4096)
-        → _≡_ {A = ℕ} (cond f 22 (cond s (cond m 14 (cond l 25 (cond (ltb 32 32) 25 0))) (settingRefusal e pruning))) 0
-        → (f ≡ false) × (e < 3) × (n ≤ 4096)
-    go true s m l p r q z = absurd (omega arith)
-    go false true true l p r q z = absurd (omega arith)
-    go false true false l p r q z = let k = setting-zero e pruning (p tt) in (refl, omega arith, q tt)
-    go false false m l p r q z = absurd (r tt z)
-
--- the plan that was found is what the decision asks for
-pub asked : (c : Case) (e pruning places : ℕ) (p : Prepared) → PreparedFor c e pruning places p → p .number ≡ 0 → (isFresh (stageOf c) ≡ false) × PlannedIn (historyIn c) (p .words) (p .rows)
-asked c e pruning places p found z =
-    let a = allowed c e pruning places (sym (found .number-is) ∙ z) in
-    let q = found .plan z .0 in
-    (a .0, record { encoding = e; low = a .1; few = a .2; lists = q .lists; rows-are = q .rows-are })
-
--- ---- what Decide leaves and gives
-
-module _ (c : Case) (e pruning : ℕ) (ys zs : List Constraint) (p : Prepared) (r : Pruned) (found : PreparedFor c e pruning (length ys) p)
-    (wrote : (h : History) (e : ℕ) → Planned h e (p .words) (p .rows) (p .count) → Encoded h e (p .pruning) ys r zs) where
+module _ (c : Case) (e pruning : ℕ) (ys zs : List Constraint) (p : Prepared)
+    (found : Finds (decideRefusal c e pruning (length ys)) (historyIn c) e pruning (length ys) (p .tables) (p .chosen) (outcomeIn p))
+    (wrote : zs ≡ itemsBy (p .tables) (p .chosen) (p .left) ++ (replicate (p .count - p .left) noConstraint ++ drop (p .count) ys)) where
   abbrev number : ℕ
   number = decideRefusal c e pruning (length ys)
 
   abbrev h : History
   h = historyIn c
 
-  -- where it is not refused the polygraph was written
-  wrote-it : number ≡ 0 → Encoded h e pruning ys r zs
+  -- where it is not refused the polygraph's constraints were written
+  wrote-it : number ≡ 0 → zs ≡ encodedList h e pruning ys
+  unfolding encodedList encodedCount
   wrote-it z =
-      let q = found .plan (found .number-is ∙ z) in subst (λ x. Encoded h e x ys r zs) (q .1) (wrote h e (q .0))
+      let q : p .number ≡ 0 = found .number-is ∙ z in
+      wrote ∙ ap₂ (λ (xs rest : List Constraint). xs ++ rest) (found .items-are q)
+      (ap₂ (λ (n m : ℕ). replicate (n - m) noConstraint ++ drop n ys) (found .count-is q) (found .left-is q))
 
   -- and where it is, nothing
   wrote-none : number ≢ 0 → zs ≡ ys
-  unfolding encodedList constraints joined between polygraph
-  wrote-none f = wrote [] 1 (found .none (λ z. f (sym (found .number-is) ∙ z))) .list-is ∙ nothing-encoded (p .pruning) ys
+  unfolding itemsBy refusedOutcome
+  wrote-none f =
+      let none : p .count ≡ 0 = ap (λ (o : Outcome). o .count) (found .none (λ z. f (sym (found .number-is) ∙ z))) in
+      let left : p .left ≡ 0 = omega (arith, found .within) in
+      wrote ∙ ap₂ (λ (m n : ℕ). itemsBy (p .tables) (p .chosen) m ++ (replicate (n - m) noConstraint ++ drop n ys)) left none
 
   pub list-left : zs ≡ listAfterDecide c e pruning ys
   unfolding listAfterDecide
   list-left =
-      ⊎-elim (λ (z : number ≡ 0). wrote-it z .list-is ∙ sym (ap (λ b. cond b (encodedList h e pruning ys) ys) (eq-eqb number 0 z)))
+      ⊎-elim (λ (z : number ≡ 0). wrote-it z ∙ sym (ap (λ b. cond b (encodedList h e pruning ys) ys) (eq-eqb number 0 z)))
       (λ (z : number ≢ 0). wrote-none z ∙ sym (ap (λ b. cond b (encodedList h e pruning ys) ys) (ne-eqb number 0 z))) (same? number 0)
 
-  pub decision-is : (d : Decision) → d ≡ answering c (p .number) (r .left) → d ≡ deciding c e pruning (length ys)
-  unfolding answering deciding
-  decision-is d q =
-      q ∙ ap (λ n. cond (eqb n 0) (decided c (firstLegal h) (r .left)) (refusedDecision c n)) (found .number-is)
-      ∙ ⊎-elim
-      (λ (z : number ≡ 0).
-      ap (λ n. cond (eqb number 0) (decided c (firstLegal h) n) (refusedDecision c number)) (wrote-it z .left-is))
-      (λ (z : number ≢ 0).
-      ap (λ b. cond b (decided c (firstLegal h) (r .left)) (refusedDecision c number)) (ne-eqb number 0 z)
-      ∙ sym (ap (λ b. cond b (decided c (firstLegal h) (encodedCount h e pruning)) (refusedDecision c number)) (ne-eqb number 0 z)))
-      (same? number 0)
-
-  pub decides : (d : Decision) → d ≡ answering c (p .number) (r .left) → Decides c e pruning ys d zs
+  pub decides : (d : Decision) → d ≡ foundBy c (p .number) (p .found) (p .order) (p .left) → Decides c e pruning ys d zs
   decides d q =
-      let is = decision-is d q in
+      let is = q ∙ found-decision c e pruning (length ys) (p .tables) (p .chosen) (outcomeIn p) found in
       record {
         result = is;
         number = ap (λ (x : Decision). verdictNumber (x .verdict)) is ∙ deciding-number c e pruning (length ys);

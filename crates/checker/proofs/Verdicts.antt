@@ -15,7 +15,8 @@ use Rattle.model.proofs.First.{Found, first-legal, legal-length}
 use Rattle.checker.specs.declared.Case.{Case}
 use Rattle.checker.specs.declared.Decision.{Decision}
 use Rattle.checker.specs.Cases.{historyIn}
-use Rattle.checker.specs.Decisions.{decideRefusal, verdictNumber, verdictFor, decided, refusedDecision, deciding, Answers}
+use Rattle.checker.specs.Decisions.{decideRefusal, verdictFor, decided, refusedDecision, deciding, Answers}
+use Rattle.answers.specs.Numbers.{verdictNumber}
 
 -- the order's T numbers, of the 32
 pub numbers-of : (h : History) (o : List ℕ) → T (legal h o) → take (size h) (orderNumbers (some o)) ≡ o

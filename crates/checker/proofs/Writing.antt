@@ -1,65 +1,32 @@
 -- Order and Table by their tests: a case that neither refuses is decided with an order. Assumes nothing.
 use Prim.Native.Nat.{ℕ, _≤_}
-use native.Mathlib.Omega.{arith}
-use mathlib.Core.Path.{_≡_, refl, sym, ap, ap₂, subst, _∙_}
+use mathlib.Core.Path.{_≡_, sym, ap, ap₂, _∙_}
 use mathlib.Core.Logic.{_≢_}
-use mathlib.Core.Bool.{Bool, true, false, not, cond}
-use mathlib.Core.List.{List, _++_}
-use lib.Dec.{T, eqb, ltb, nltb→le}
-use lib.ListN.{length, take, drop}
-use lib.Seq.{take-all}
+use mathlib.Core.Bool.{true, cond}
+use mathlib.Core.List.{List}
+use lib.Dec.{T, eqb}
+use lib.ListN.{length, take}
 use borrow.Author.Tests.{eq-eqb, ne-eqb}
-use Rattle.model.specs.History.{isOrder, finalTable}
-use Rattle.model.specs.Log.{transactionsIn, loadNumber}
+use Rattle.model.specs.History.{isOrder}
+use Rattle.model.specs.Log.{transactionsIn}
 use Rattle.model.specs.Lent.{writtenOrder, writtenTable}
-use Rattle.checker.specs.declared.Stage.{Stage}
-use Rattle.checker.specs.declared.Stage.the-variants.{Fresh, Loaded, Ordered, NoOrder}
+use Rattle.answers.specs.declared.Stage.{Stage}
+use Rattle.answers.specs.declared.Stage.the-variants.{Ordered}
 use Rattle.checker.specs.declared.Case.{Case}
 use Rattle.checker.specs.declared.Answer.{Answer}
-use Rattle.checker.specs.declared.Reply.{Reply}
-use Rattle.checker.specs.declared.Reply.the-variants.{Taken, Refused}
-use Rattle.checker.specs.Cases.{contents, historyIn, orderIn, holdsLog, claimsOrder, counted, stageOf, isFresh, copied}
-use Rattle.checker.specs.Answers.{replyOf}
-use Rattle.checker.specs.Results.{refusedBy, orderRefused, tableRefused, replying, orderLeft, tableLeft}
+use Rattle.answers.specs.declared.Reply.{Reply}
+use Rattle.answers.specs.declared.Reply.the-variants.{Taken, Refused}
+use Rattle.checker.specs.Cases.{contents, historyIn, orderIn, stageOf}
+use Rattle.answers.specs.Stages.{holdsLog, claimsOrder, isFresh}
+use Rattle.answers.specs.Copies.{copied}
+use Rattle.answers.specs.Numbers.{replyOf}
+use Rattle.checker.specs.Results.{orderRefused, tableRefused, replying, orderLeft, tableLeft}
+use Rattle.answers.specs.Stages.{refusedBy}
 use Rattle.checker.proofs.Holding.{case-holds}
-use Rattle.checker.proofs.Loads.{reply-none, reply-some}
-
--- ---- the numbers
-
-pub refused-fresh : (s : Stage) (needed places : ℕ) → isFresh s ≡ true → 23 ≡ refusedBy s needed places
-unfolding refusedBy
-refused-fresh Fresh needed places e = refl
-refused-fresh Loaded needed places e = refl
-refused-fresh Ordered needed places e = absurd (subst T (sym e) tt)
-refused-fresh NoOrder needed places e = absurd (subst T (sym e) tt)
-
-record Free (s : Stage) (needed places : ℕ) : Type 0 where
-  ordered : s ≡ Ordered
-  room : needed ≤ places
-
-refused-none : (s : Stage) (needed places : ℕ) → refusedBy s needed places ≡ 0 → Free s needed places
-unfolding refusedBy
-refused-none Fresh needed places e = absurd (omega (arith, e))
-refused-none Loaded needed places e = absurd (omega (arith, e))
-refused-none NoOrder needed places e = absurd (omega (arith, e))
-refused-none Ordered needed places e = record { ordered = refl; room = go (ltb places needed) e (λ t. nltb→le places needed t) }
-  where
-    go : (b : Bool) → _≡_ {A = ℕ} (cond b 25 0) 0 → (T (not b) → needed ≤ places) → needed ≤ places
-    go true p f = absurd (omega (arith, p))
-    go false p f = f tt
+use Rattle.answers.proofs.Answering.{reply-none, reply-some}
+use Rattle.answers.proofs.Holding.{counted-ordered, refused-fresh, refused-none}
 
 -- ---- a case that is decided with an order
-
-counted-ordered : (s : Stage) (loads orders : Bool) → counted s loads orders ≡ Ordered → T orders
-unfolding counted
-counted-ordered Fresh loads orders e = let z : _≡_ {A = ℕ} 0 1 = cc in absurd (omega arith)
-counted-ordered Loaded false orders e = let z : _≡_ {A = ℕ} 0 1 = cc in absurd (omega arith)
-counted-ordered Loaded true orders e = let z : _≡_ {A = ℕ} 0 1 = cc in absurd (omega arith)
-counted-ordered Ordered false orders e = let z : _≡_ {A = ℕ} 0 1 = cc in absurd (omega arith)
-counted-ordered Ordered true false e = let z : _≡_ {A = ℕ} 0 1 = cc in absurd (omega arith)
-counted-ordered Ordered true true e = tt
-counted-ordered NoOrder false orders e = let z : _≡_ {A = ℕ} 0 1 = cc in absurd (omega arith)
-counted-ordered NoOrder true orders e = let z : _≡_ {A = ℕ} 0 1 = cc in absurd (omega arith)
 
 module _ (c : Case) where
   module _ (e : stageOf c ≡ Ordered) where
@@ -142,8 +109,5 @@ module _ (c : Case) where
     unfolding writtenOrder
     order-written n zs p e = e ∙ ap (λ k. copied k (c .order) ys) p
 
-    pub table-written : (n : ℕ) (vs zs : List ℕ) → n ≡ transactionsIn (contents c) → length vs ≡ 32 → vs ≡ finalTable (historyIn c) (take n (c .order)) → zs ≡ copied 32 vs ys
-        → zs ≡ writtenTable (historyIn c) (orderIn c) ys
-    unfolding writtenTable
-    table-written n vs zs p l q e =
-        e ∙ ap (λ (xs : List ℕ). xs ++ drop 32 ys) (take-all 32 vs (omega arith) ∙ q ∙ ap (λ k. finalTable (historyIn c) (take k (c .order))) p)
+    pub table-written : (n : ℕ) (zs : List ℕ) → n ≡ transactionsIn (contents c) → zs ≡ writtenTable (historyIn c) (take n (c .order)) ys → zs ≡ writtenTable (historyIn c) (orderIn c) ys
+    table-written n zs p e = e ∙ ap (λ k. writtenTable (historyIn c) (take k (c .order)) ys) p

@@ -3,13 +3,14 @@ use Prim.Native.Nat.{ℕ}
 use mathlib.Core.Bool.{Bool, cond, _&&_}
 use mathlib.Core.List.{List}
 use lib.Dec.{eqb}
-use Rattle.model.specs.History.{size, isOrder, legal}
+use Rattle.model.specs.History.{size, legal}
 use Rattle.model.specs.Log.{loadNumber}
 use Rattle.checker.specs.declared.Case.{Case}
 use Rattle.checker.specs.declared.Answer.{Answer}
 use Rattle.checker.specs.declared.Checking.{Checking}
-use Rattle.checker.specs.Cases.{historyIn, stageOf, isFresh, loadedCase}
-use Rattle.checker.specs.Answers.{replyOf, judgementOf}
+use Rattle.checker.specs.Cases.{historyIn, stageOf, loadedCase}
+use Rattle.answers.specs.Stages.{isFresh, orderRefusal}
+use Rattle.answers.specs.Numbers.{replyOf, judgementOf}
 
 -- Load tests 21, a case not fresh, then 1 to 11 in turn.
 unfoldable pub loadRefusal : Case → List ℕ → ℕ
@@ -21,10 +22,6 @@ caseAfterLoad c b = cond (eqb (loadRefusal c b) 0) (loadedCase b) c
 
 unfoldable pub loading : Case → List ℕ → Answer
 loading c b = record { case = caseAfterLoad c b; reply = replyOf (loadRefusal c b) }
-
--- 13 a proposed order that isn't every number below T once
-unfoldable pub orderRefusal : ℕ → List ℕ → ℕ
-orderRefusal n o = cond (isOrder n o) 0 13
 
 -- Check tests 22, a fresh case, then 13.
 unfoldable pub checkRefusal : Case → List ℕ → ℕ

@@ -11,28 +11,23 @@ use Rattle.model.specs.declared.Constraint.{Constraint}
 use Rattle.model.specs.History.{History, size, legal}
 use Rattle.model.specs.Lent.{encodedList, encodedCount, orderNumbers}
 use Rattle.model.specs.Search.{firstLegal, LexLess}
-use Rattle.checker.specs.declared.Stage.{Stage}
-use Rattle.checker.specs.declared.Stage.the-variants.{Ordered, NoOrder}
-use Rattle.checker.specs.declared.Verdict.{Verdict}
-use Rattle.checker.specs.declared.Verdict.the-variants.{Order, Without, Refused}
+use Rattle.answers.specs.declared.Stage.{Stage}
+use Rattle.answers.specs.declared.Stage.the-variants.{Ordered, NoOrder}
+use Rattle.answers.specs.declared.Verdict.{Verdict}
+use Rattle.answers.specs.declared.Verdict.the-variants.{Order, NoOrder as NoOrderSaid, Refused}
 use Rattle.checker.specs.declared.Case.{Case}
 use Rattle.checker.specs.declared.Decision.{Decision}
 use Rattle.checker.specs.Cases.{historyIn}
 use Rattle.checker.specs.Encodings.{encodeRefusal}
+use Rattle.answers.specs.Numbers.{verdictNumber}
 
 -- Decide tests 22, 12, 14 and 25 as Encode does, for a list of so many places; it writes no row words.
 abbrev pub decideRefusal : Case → ℕ → ℕ → ℕ → ℕ
 decideRefusal c e pruning places = encodeRefusal c e pruning places 32
 
--- document 01's number of a verdict: 0 beside an order or 'no order'
-abbrev pub verdictNumber : Verdict → ℕ
-verdictNumber Order = 0
-verdictNumber Without = 0
-verdictNumber (Refused n) = n
-
 -- the verdict and the stage that an answer stands for
 abbrev pub verdictFor : Option (List ℕ) → Verdict
-verdictFor none = Without
+verdictFor none = NoOrderSaid
 verdictFor (some o) = Order
 
 abbrev pub stageFor : Option (List ℕ) → Stage
@@ -58,7 +53,7 @@ deciding c e pruning places =
 -- Demand 3 in its own words: 'no order' only where no legal order exists; otherwise the order's T numbers are a legal order which has, against
 -- every other legal one, the lower number at the first place where the two differ.
 unfoldable pub Answers : History → Verdict → List ℕ → Type 0
-Answers h Without order = (p : List ℕ) → T (legal h p) → ⊥
+Answers h NoOrderSaid order = (p : List ℕ) → T (legal h p) → ⊥
 Answers h Order order =
     T (legal h (take (size h) order)) × ((p : List ℕ) → T (legal h p) → (p ≡ take (size h) order) ⊎ LexLess (take (size h) order) p)
 Answers h (Refused n) order = Unit {0}

@@ -1,33 +1,24 @@
 -- What Encode gives and leaves, refused or not: document 01, 'The calls' and the two pages of refusals. Assumes nothing.
 use Prim.Native.Nat.{ℕ, _≤_}
 use mathlib.Core.Path.{_≡_}
-use mathlib.Core.Bool.{Bool, cond}
+use mathlib.Core.Bool.{cond}
 use mathlib.Core.List.{List}
-use lib.Dec.{eqb, ltb}
+use lib.Dec.{eqb}
 use lib.ListN.{length}
-use Rattle.model.specs.Polygraph.{constraints}
 use Rattle.model.specs.Lent.{encodedList, encodedRows, encodedCount}
 use Rattle.model.specs.declared.Constraint.{Constraint}
-use Rattle.encoding.specs.Writing.{Planned, Ready}
+use Rattle.encoding.specs.Writing.{Planned, Writable}
 use Rattle.checker.specs.declared.Case.{Case}
 use Rattle.checker.specs.declared.Encoding.{Encoding}
 use Rattle.checker.specs.declared.polygraphs.Planning.{Planning}
-use Rattle.checker.specs.Cases.{historyIn, stageOf, isFresh}
-use Rattle.checker.specs.Answers.{numberOf, replyOf}
-
--- 12 setting out of range: encoding 0 to 2, pruning 0 or 1
-unfoldable pub settingRefusal : ℕ → ℕ → ℕ
-settingRefusal e pruning = cond (ltb 2 e) 12 (cond (ltb 1 pruning) 12 0)
-
--- 14 more than 4,096 constraints before pruning; 25 a lent list too short: fewer places than constraints before pruning, then 32 row words
-unfoldable pub placesRefusal : ℕ → ℕ → ℕ → ℕ
-placesRefusal count places words = cond (ltb 4096 count) 14 (cond (ltb places count) 25 (cond (ltb words 32) 25 0))
+use Rattle.checker.specs.Cases.{historyIn, stageOf}
+use Rattle.answers.specs.Stages.{isFresh}
+use Rattle.answers.specs.Numbers.{numberOf, replyOf}
+use Rattle.answers.specs.Settings.{polygraphRefusal}
 
 -- Encode tests 22, a fresh case, then 12, 14, 25.
 unfoldable pub encodeRefusal : Case → ℕ → ℕ → ℕ → ℕ → ℕ
-encodeRefusal c e pruning places words =
-    cond (isFresh (stageOf c)) 22
-    (cond (eqb (settingRefusal e pruning) 0) (placesRefusal (length (constraints (historyIn c) e)) places words) (settingRefusal e pruning))
+encodeRefusal c e pruning places words = cond (isFresh (stageOf c)) 22 (polygraphRefusal (historyIn c) e pruning places words)
 
 -- the answer: the case as it was, the number, and the count left, 0 for a refusal
 unfoldable pub encodeAnswer : Case → ℕ → ℕ → ℕ → ℕ → Encoding
@@ -54,6 +45,6 @@ pub record Encodes (c : Case) (e pruning : ℕ) (ys : List Constraint) (ws : Lis
 -- what is decided before anything is written
 pub record Plans (c : Case) (e pruning places words : ℕ) (r : Planning) : Type 0 where
   pub number-is : r .number ≡ encodeRefusal c e pruning places words
-  pub plan : r .number ≡ 0 → Planned (historyIn c) e (r .words) (r .rows) (r .count)
-  pub ready : r .number ≡ 0 → Ready (r .words) (r .count) places
+  pub plan : r .number ≡ 0 → Planned (historyIn c) e (r .tables) (r .chosen) (r .rows) (r .count)
+  pub ready : r .number ≡ 0 → Writable (r .count) places
   pub room : r .number ≡ 0 → 32 ≤ words

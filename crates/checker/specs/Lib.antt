@@ -1,7 +1,7 @@
 pub mod Cases
-pub mod Answers
 pub mod Calls
 pub mod Results
 pub mod Encodings
 pub mod Decisions
 pub mod Preparing
+pub mod Demand

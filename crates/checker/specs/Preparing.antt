@@ -1,32 +1,40 @@
--- What is found out before Decide writes anything: the refusal, or the plan of the polygraph. Assumes nothing.
+-- What Decide has before it writes anything, the case with what was found, and the answer. Assumes nothing.
 use Prim.Native.Nat.{ℕ}
-use mathlib.Core.Path.{_≡_}
-use mathlib.Core.Logic.{_≢_}
-use mathlib.Core.Bool.{cond}
-use mathlib.Core.List.{[]}
+use mathlib.Core.Bool.{Bool, true, false, cond}
+use mathlib.Core.List.{List}
 use lib.Dec.{eqb}
-use Rattle.model.specs.Search.{firstLegal}
-use Rattle.encoding.specs.Writing.{Planned, Ready}
+use Rattle.answers.specs.declared.Stage.{Stage}
+use Rattle.answers.specs.declared.Stage.the-variants.{Ordered, NoOrder}
+use Rattle.answers.specs.declared.Verdict.{Verdict}
+use Rattle.answers.specs.declared.Verdict.the-variants.{Order, NoOrder as NoOrderSaid}
+use Rattle.answers.specs.declared.deciding.Outcome.{Outcome}
 use Rattle.checker.specs.declared.Case.{Case}
 use Rattle.checker.specs.declared.Decision.{Decision}
 use Rattle.checker.specs.declared.deciding.Prepared.{Prepared}
-use Rattle.checker.specs.Cases.{historyIn}
-use Rattle.checker.specs.Decisions.{decideRefusal, decided, refusedDecision}
+use Rattle.checker.specs.Decisions.{refusedDecision}
 
--- The refusal for a list of so many places; where there is none, the plan of the case's polygraph; else the plan of an empty history, in which
--- nothing is to be written.
-pub record PreparedFor (c : Case) (e pruning places : ℕ) (p : Prepared) : Type 0 where
-  pub number-is : p .number ≡ decideRefusal c e pruning places
-  pub ready : Ready (p .words) (p .count) places
-  pub plan : p .number ≡ 0 → Planned (historyIn c) e (p .words) (p .rows) (p .count) × (p .pruning ≡ pruning)
-  pub none : p .number ≢ 0 → Planned [] 1 (p .words) (p .rows) (p .count)
+-- what was found, of what Decide has before it writes
+abbrev pub outcomeIn : Prepared → Outcome
+outcomeIn p = record { number = p .number; found = p .found; order = p .order; count = p .count; left = p .left }
 
--- a refusal with the plan of an empty history
-pub record EmptyPlan (number : ℕ) (p : Prepared) : Type 0 where
-  pub number-is : p .number ≡ number
-  pub count-is : p .count ≡ 0
-  pub plan : Planned [] 1 (p .words) (p .rows) (p .count)
+-- the stage and the verdict, by whether an order was found
+abbrev pub stageBy : Bool → Stage
+stageBy true = Ordered
+stageBy false = NoOrder
 
--- the answer with a count, or the refusal
-unfoldable pub answering : Case → ℕ → ℕ → Decision
-answering c number left = cond (eqb number 0) (decided c (firstLegal (historyIn c)) left) (refusedDecision c number)
+abbrev pub verdictBy : Bool → Verdict
+verdictBy true = Order
+verdictBy false = NoOrderSaid
+
+-- the case with what was found, or as it was beside a refusal
+unfoldable pub storing : Case → ℕ → Bool → List ℕ → Case
+storing c number found order = cond (eqb number 0) (record { stage = stageBy found; bytes = c .bytes; length = c .length; order = order }) c
+
+-- the answer with that case, or the refusal
+unfoldable pub answering : Case → ℕ → Bool → List ℕ → ℕ → Decision
+answering c number found order left =
+    cond (eqb number 0) (record { case = c; verdict = verdictBy found; order = order; left = left }) (refusedDecision c number)
+
+-- both together: the answer with the case that has what was found
+abbrev pub foundBy : Case → ℕ → Bool → List ℕ → ℕ → Decision
+foundBy c number found order left = answering (storing c number found order) number found order left

@@ -1,24 +1,16 @@
 -- What Order and Table give and leave, refused or not: document 01, 'The calls' and 'Refused because of the state'. Assumes nothing.
 use Prim.Native.Nat.{ℕ}
-use mathlib.Core.Bool.{Bool, cond}
+use mathlib.Core.Bool.{cond}
 use mathlib.Core.List.{List}
-use lib.Dec.{eqb, ltb}
+use lib.Dec.{eqb}
 use lib.ListN.{length}
 use Rattle.model.specs.Log.{transactionsIn}
 use Rattle.model.specs.Lent.{writtenOrder, writtenTable}
-use Rattle.checker.specs.declared.Stage.{Stage}
-use Rattle.checker.specs.declared.Stage.the-variants.{Fresh, Loaded, Ordered, NoOrder}
 use Rattle.checker.specs.declared.Case.{Case}
 use Rattle.checker.specs.declared.Answer.{Answer}
 use Rattle.checker.specs.Cases.{contents, historyIn, orderIn, stageOf}
-use Rattle.checker.specs.Answers.{replyOf}
-
--- Order and Table test 23, a case not decided; 24, the same after 'no order'; 25, a lent list of fewer places than are needed.
-unfoldable pub refusedBy : Stage → ℕ → ℕ → ℕ
-refusedBy Fresh needed places = 23
-refusedBy Loaded needed places = 23
-refusedBy NoOrder needed places = 24
-refusedBy Ordered needed places = cond (ltb places needed) 25 0
+use Rattle.answers.specs.Numbers.{replyOf}
+use Rattle.answers.specs.Stages.{refusedBy}
 
 -- Order needs T places, Table 32.
 unfoldable pub orderRefused : Case → ℕ → ℕ

@@ -1,69 +1,104 @@
-// The parts of Decide that work on values: what is found out before anything is written, and the answer after it.
+// The parts of Decide that work on values: what is found out before anything is written, the case with the answer stored, and the answer.
 ghost use mathlib.Core.Path.{_≡_};
-ghost use Rattle.decision.specs.Answer.{PlannedIn};
-ghost use Rattle.checker.specs.Cases.{historyIn, stageOf, isFresh};
-ghost use Rattle.checker.specs.Preparing.{PreparedFor, EmptyPlan, answering};
-ghost use mathlib.Core.Bool.{false};
+ghost use Rattle.answers.specs.Finding.{Finds, refusedOutcome};
+ghost use Rattle.checker.specs.Cases.{historyIn};
+ghost use Rattle.checker.specs.Decisions.{decideRefusal};
+ghost use Rattle.checker.specs.Preparing.{outcomeIn, storing, answering};
 use crate::Case;
 use crate::Decision;
 use crate::Stage;
 use crate::Verdict;
-use crate::polygraphs::planned;
+use crate::held::is_fresh;
+use answers::deciding::decided;
+use listing::PLACES;
+use listing::WORDS;
 
-// What is found out before Decide writes anything: the refusal or 0, and what is to be written: the tables that list the constraints, the known edges
-// before pruning, the count of constraints before pruning, and the pruning. Beside a refusal nothing is to be written.
+// What is found out before Decide writes anything: the refusal or 0; whether there is an order, and its numbers; the counts of constraints before
+// pruning and left; and the tables and candidates' numbers, of which the first are the constraints left. Beside a refusal there is nothing.
 pub(crate) struct Prepared {
     pub number: u8,
-    pub words: [u32; 3073],
-    pub rows: [u32; 32],
+    pub found: bool,
+    pub order: [u8; 32],
     pub count: usize,
-    pub pruning: u8,
+    pub left: usize,
+    pub tables: [u32; WORDS],
+    pub chosen: [u16; PLACES],
 }
 
 // A refusal, with nothing to write.
 fn nothing(number: u8) -> Prepared
-    ensures { λ r. ⌜ EmptyPlan number r ⌝ }
+    ensures { λ r. ⌜ outcomeIn r ≡ refusedOutcome number ⌝ }
 {
     Prepared {
         number,
-        words: [0; 3073],
-        rows: [0; 32],
+        found: false,
+        order: [0; 32],
         count: 0,
-        pruning: 0,
+        left: 0,
+        tables: [0; WORDS],
+        chosen: [0; PLACES],
     }
 }
 
-// What is found out for a list of so many places.
+// What is found out for a list of so many places: 22, then what the log's bytes give.
 pub(crate) fn prepare(c: Case, encoding: u8, pruning: u8, places: usize) -> Prepared
-    ensures { λ r. ⌜ PreparedFor c encoding pruning places r ⌝ }
+    ensures { λ r. ⌜ Finds (decideRefusal c encoding pruning places) (historyIn c) encoding pruning places (r .tables) (r .chosen) (outcomeIn r) ⌝ }
 {
-    let p = planned(c, encoding, pruning, places, 32);
-    let number = p.number;
-    if number != 0 {
-        return nothing(number);
+    if is_fresh(c) {
+        return nothing(22);
     }
-    let words = p.words;
-    let rows = p.rows;
-    let count = p.count;
-    Prepared {
-        number,
-        words,
-        rows,
-        count,
+    let bytes = c.bytes;
+    let length = c.length;
+    let mut tables = [0u32; WORDS];
+    let mut chosen = [0u16; PLACES];
+    let o = decided(
+        &bytes[..length],
+        encoding,
         pruning,
+        places,
+        &mut tables,
+        &mut chosen,
+    );
+    let order = o.order;
+    Prepared {
+        number: o.number,
+        found: o.found,
+        order,
+        count: o.count,
+        left: o.left,
+        tables,
+        chosen,
     }
 }
 
-// Decide's answer, where the list has been written and so many constraints are left: from the tables and the known edges before pruning, not from the list.
-pub(crate) fn answered(
-    c: Case,
-    number: u8,
-    words: [u32; 3073],
-    rows: [u32; 32],
-    left: usize,
-) -> Decision
-    requires { ⌜ (number ≡ 0 → (isFresh (stageOf c) ≡ false) × PlannedIn (historyIn c) words rows) ⌝ }
-    ensures { λ r. ⌜ r ≡ answering c number left ⌝ }
+// The case with the answer stored, or as it was where Decide is refused.
+pub(crate) fn stored(c: Case, number: u8, found: bool, order: [u8; 32]) -> Case
+    ensures { λ r. ⌜ r ≡ storing c number found order ⌝ }
+{
+    if number != 0 {
+        return c;
+    }
+    let bytes = c.bytes;
+    let length = c.length;
+    if found {
+        return Case {
+            stage: Stage::Ordered,
+            bytes,
+            length,
+            order,
+        };
+    }
+    Case {
+        stage: Stage::NoOrder,
+        bytes,
+        length,
+        order,
+    }
+}
+
+// The answer beside that case, with so many constraints left.
+pub(crate) fn answer(c: Case, number: u8, found: bool, order: [u8; 32], left: usize) -> Decision
+    ensures { λ r. ⌜ r ≡ answering c number found order left ⌝ }
 {
     if number != 0 {
         return Decision {
@@ -73,32 +108,17 @@ pub(crate) fn answered(
             left: 0,
         };
     }
-    let bytes = c.bytes;
-    let held = c.length;
-    let f = decision::first_planned(&bytes[..held], &words, rows);
-    let order = f.order;
-    let found = f.found;
     if found {
         return Decision {
-            case: Case {
-                stage: Stage::Ordered,
-                bytes,
-                length: held,
-                order,
-            },
+            case: c,
             verdict: Verdict::Order,
             order,
             left,
         };
     }
     Decision {
-        case: Case {
-            stage: Stage::NoOrder,
-            bytes,
-            length: held,
-            order,
-        },
-        verdict: Verdict::Without,
+        case: c,
+        verdict: Verdict::NoOrder,
         order,
         left,
     }

@@ -2,33 +2,15 @@
 ghost use mathlib.Core.Path.{_≡_};
 ghost use Prim.Native.Nat.{_≤_};
 ghost use lib.ListN as ListN;
-ghost use lib.Dec.{T};
 ghost use Rattle.model.specs.Log.{loadNumber};
-ghost use Rattle.checker.specs.Cases.{holdsLog, claimsOrder, stageOf, isFresh, inRoom, loadedCase};
+ghost use Rattle.checker.specs.Cases.{stageOf, inRoom, loadedCase};
+ghost use Rattle.answers.specs.Stages.{isFresh};
 ghost use Rattle.checker.specs.Calls.{loadRefusal};
 use crate::Case;
 use crate::Stage;
-use crate::copies::copy_bytes;
-use replay::orders::is_order;
-
-// Whether Load takes the first `length` bytes, and there are so many.
-fn holds_log(bytes: &[u8], length: usize) -> bool
-    ensures { λ r. ⌜ r ≡ holdsLog (now (bytes .entry)) length ⌝ }
-{
-    if length > bytes.len() {
-        return false;
-    }
-    log::number(&bytes[..length]) == 0
-}
-
-// Whether the first T numbers are an order, of a log that Load takes.
-fn claims_order(bytes: &[u8], length: usize, order: &[u8]) -> bool
-    requires { ⌜ T (holdsLog (now bytes) length) × (32 ≤ ListN.length (now order)) ⌝ }
-    ensures { λ r. ⌜ r ≡ claimsOrder (now (bytes .entry)) length (now (order .entry)) ⌝ }
-{
-    let n = log::transactions(&bytes[..length]);
-    is_order(n as u32, &order[..n])
-}
+use answers::copies::copy_bytes;
+use answers::stages::counted_as;
+use answers::stages::is_fresh_stage;
 
 // The stage that a case counts as.
 pub(crate) fn stage_of(c: Case) -> Stage
@@ -38,34 +20,7 @@ pub(crate) fn stage_of(c: Case) -> Stage
     let bytes = c.bytes;
     let length = c.length;
     let order = c.order;
-    if let Stage::Fresh = says {
-        return Stage::Fresh;
-    }
-    if !holds_log(&bytes, length) {
-        return Stage::Fresh;
-    }
-    match says {
-        Stage::Fresh => Stage::Fresh,
-        Stage::Loaded => Stage::Loaded,
-        Stage::Ordered => if claims_order(&bytes, length, &order) {
-            Stage::Ordered
-        } else {
-            Stage::Loaded
-        },
-        Stage::NoOrder => Stage::NoOrder,
-    }
-}
-
-// Whether a stage is fresh.
-pub(crate) fn counts_fresh(stage: Stage) -> bool
-    ensures { λ r. ⌜ r ≡ isFresh stage ⌝ }
-{
-    match stage {
-        Stage::Fresh => true,
-        Stage::Loaded => false,
-        Stage::Ordered => false,
-        Stage::NoOrder => false,
-    }
+    counted_as(says, &bytes, length, &order)
 }
 
 // Whether a case counts as fresh.
@@ -73,7 +28,7 @@ pub(crate) fn is_fresh(c: Case) -> bool
     ensures { λ r. ⌜ r ≡ isFresh (stageOf c) ⌝ }
 {
     let stage = stage_of(c);
-    counts_fresh(stage)
+    is_fresh_stage(stage)
 }
 
 // The number with which Load refuses, or 0: 21, then 1 to 11.

@@ -7,23 +7,18 @@ ghost use Rattle.checker.specs.Calls.{loading, loadRefusal, checking, ch
 ghost use Rattle.checker.specs.Results.{orderRefused, orderLeft, tableRefused, tableLeft, replying};
 ghost use Rattle.checker.specs.Encodings.{Encodes};
 ghost use Rattle.checker.specs.Decisions.{Decides};
-ghost use Rattle.checker.specs.Answers.{numberOf, judgementNumber, judgementYes};
+ghost use Rattle.answers.specs.Numbers.{numberOf, judgementNumber, judgementYes};
+pub use answers::Judgement;
+pub use answers::Reply;
+pub use answers::Stage;
+pub use answers::Verdict;
 use model::Constraint;
 
-mod copies;
 mod deciding;
 mod held;
 mod judging;
 mod polygraphs;
 mod results;
-
-// What a case says of itself: nothing loaded; a log; a log with an order that was decided; a log that was decided to have none.
-pub enum Stage {
-    Fresh,
-    Loaded,
-    Ordered,
-    NoOrder,
-}
 
 pub struct Case {
     pub stage: Stage,
@@ -32,23 +27,10 @@ pub struct Case {
     pub order: [u8; 32],
 }
 
-// The answer of a call that gives no number or yes or no: done, or refused with document 01's number.
-pub enum Reply {
-    Taken,
-    Refused(u8),
-}
-
 // The case after the call, and the reply.
 pub struct Answer {
     pub case: Case,
     pub reply: Reply,
-}
-
-// Whether a proposed order is legal, or refused with document 01's number.
-pub enum Judgement {
-    Legal,
-    Illegal,
-    Refused(u8),
 }
 
 pub struct Checking {
@@ -63,13 +45,6 @@ pub struct Encoding {
     pub left: usize,
 }
 
-// What Decide says: there is an order; there is none; or refused with document 01's number.
-pub enum Verdict {
-    Order,
-    Without,
-    Refused(u8),
-}
-
 // The case with the answer stored, the verdict, the order as 32 numbers, and the count that Encode gives.
 pub struct Decision {
     pub case: Case,
@@ -79,8 +54,20 @@ pub struct Decision {
 }
 
 impl Case {
+    // A fresh case: nothing loaded, and zeros everywhere.
+    pub fn fresh() -> Case
+        ensures { λ r. ⌜ r ≡ freshCase ⌝ }
+    {
+        Case {
+            stage: Stage::Fresh,
+            bytes: [0; 1156],
+            length: 0,
+            order: [0; 32],
+        }
+    }
+
     // Reads a log into a fresh case.
-    pub fn load(self, log: &[u8]) -> Answer
+    pub fn load(mut self, log: &[u8]) -> Answer
         ensures result { λ r. ⌜ r ≡ loading self (now (log .entry)) ⌝ }
         ensures number { λ r. ⌜ numberOf (r .reply) ≡ loadRefusal self (now (log .entry)) ⌝ }
     {
@@ -91,9 +78,10 @@ impl Case {
                 reply: Reply::Refused(number),
             };
         }
-        let case = held::loaded(log);
+        let loaded = held::loaded(log);
+        self = loaded;
         Answer {
-            case,
+            case: self,
             reply: Reply::Taken,
         }
     }
@@ -112,18 +100,23 @@ impl Case {
         if p.number != 0 {
             return polygraphs::answer(self, p.number, 0);
         }
-        let r = encoding::write(p.words, p.rows, p.count, pruning, list);
-        polygraphs::put_rows(r.rows, rows);
+        let tables = p.tables;
+        let chosen = p.chosen;
+        let r = encoding::write(&tables, &chosen, p.rows, p.count, pruning, list);
+        answers::copies::copy_rows(r.rows, rows);
         polygraphs::answer(self, 0, r.left)
     }
 
     // Writes the constraints of a setting to the list, as Encode does; stores and gives the first legal order, or 'no order'. Proved by hand.
-    pub fn decide(self, encoding: u8, pruning: u8, list: &mut [Constraint]) -> Decision
+    pub fn decide(mut self, encoding: u8, pruning: u8, list: &mut [Constraint]) -> Decision
         ensures { λ r. ⌜ Decides self encoding pruning (now (list .entry)) r (now (list .exit)) ⌝ }
     {
         let p = deciding::prepare(self, encoding, pruning, list.len());
-        let w = encoding::write(p.words, p.rows, p.count, p.pruning, list);
-        deciding::answered(self, p.number, p.words, p.rows, w.left)
+        let tables = p.tables;
+        let chosen = p.chosen;
+        encoding::write_left(&tables, &chosen, p.left, p.count, list);
+        self = deciding::stored(self, p.number, p.found, p.order);
+        deciding::answer(self, p.number, p.found, p.order, p.left)
     }
 
     // Writes the order's T numbers as bytes.
@@ -180,14 +173,11 @@ impl Case {
     }
 
     // A fresh case, whatever the case was.
-    pub fn clear(self) -> Case
+    pub fn clear(mut self) -> Case
         ensures { λ r. ⌜ r ≡ freshCase ⌝ }
     {
-        Case {
-            stage: Stage::Fresh,
-            bytes: [0; 1156],
-            length: 0,
-            order: [0; 32],
-        }
+        let fresh = Case::fresh();
+        self = fresh;
+        self
     }
 }

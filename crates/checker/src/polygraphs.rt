@@ -1,44 +1,24 @@
 // Encode: the plan of a case's polygraph in a setting, with the number with which the call refuses, before anything is written; and its answer.
 ghost use mathlib.Core.Path.{_≡_};
-ghost use Prim.Native.Nat.{_≤_};
-ghost use lib.ListN as ListN;
-ghost use Rattle.checker.specs.Answers.{replyOf};
-ghost use Rattle.checker.specs.Cases.{copied};
-ghost use Rattle.checker.specs.Encodings.{settingRefusal, placesRefusal, Plans};
+ghost use Rattle.answers.specs.Numbers.{replyOf};
+ghost use Rattle.checker.specs.Encodings.{Plans};
 use crate::Case;
 use crate::Encoding;
 use crate::Reply;
 use crate::held::is_fresh;
+use answers::settings::places_refusal;
+use answers::settings::setting_refusal;
+use listing::PLACES;
+use listing::WORDS;
 
-// What Encode does: the number with which it refuses, or 0 and the plan of the polygraph.
+// What Encode does: the number with which it refuses, or 0 and the plan of the polygraph: the tables and the numbers of its constraints, its known edges
+// before pruning, and the count of its constraints before pruning.
 pub(crate) struct Planning {
     pub number: u8,
-    pub words: [u32; 3073],
+    pub tables: [u32; WORDS],
+    pub chosen: [u16; PLACES],
     pub rows: [u32; 32],
     pub count: usize,
-}
-
-// 12 a setting out of range.
-fn setting_refusal(encoding: u8, pruning: u8) -> u8
-    ensures { λ r. ⌜ r ≡ settingRefusal encoding pruning ⌝ }
-{
-    if encoding > 2 {
-        return 12;
-    }
-    if pruning > 1 { 12 } else { 0 }
-}
-
-// 14 more than 4,096 constraints; 25 a list with fewer places than constraints, or fewer than 32 row words.
-fn places_refusal(count: usize, places: usize, words: usize) -> u8
-    ensures { λ r. ⌜ r ≡ placesRefusal count places words ⌝ }
-{
-    if count > 4096 {
-        return 14;
-    }
-    if places < count {
-        return 25;
-    }
-    if words < 32 { 25 } else { 0 }
 }
 
 // A refusal before the constraints are counted.
@@ -47,7 +27,8 @@ fn unplanned(number: u8) -> Planning
 {
     Planning {
         number,
-        words: [0; 3073],
+        tables: [0; WORDS],
+        chosen: [0; PLACES],
         rows: [0; 32],
         count: 0,
     }
@@ -66,28 +47,18 @@ pub(crate) fn planned(c: Case, encoding: u8, pruning: u8, places: usize, words: 
     }
     let bytes = c.bytes;
     let length = c.length;
-    let p = encoding::prepare(&bytes[..length], encoding);
-    let tables = p.words;
+    let mut tables = [0u32; WORDS];
+    let mut chosen = [0u16; PLACES];
+    let p = encoding::prepare(&bytes[..length], encoding, &mut tables, &mut chosen);
     let rows = p.rows;
     let count = p.count;
     let number = places_refusal(count, places, words);
     Planning {
         number,
-        words: tables,
+        tables,
+        chosen,
         rows,
         count,
-    }
-}
-
-// The row words go into the first 32 places.
-pub(crate) fn put_rows(from: [u32; 32], out: &mut [u32])
-    requires { ⌜ 32 ≤ ListN.length (now out) ⌝ }
-    ensures { λ _. ⌜ now (out .exit) ≡ copied 32 from (now (out .entry)) ⌝ }
-{
-    let mut i: usize = 0;
-    while i < 32 {
-        out[i] = from[i];
-        i += 1;
     }
 }
 

@@ -4,31 +4,18 @@ ghost use lib.ListN.{length};
 ghost use Rattle.model.specs.Log.{transactionsIn};
 ghost use Rattle.model.specs.Lent.{writtenOrder, writtenTable};
 ghost use Rattle.checker.specs.Cases.{contents, historyIn, orderIn, stageOf};
-ghost use Rattle.checker.specs.Results.{refusedBy, orderRefused, tableRefused};
+ghost use Rattle.checker.specs.Results.{orderRefused, tableRefused};
 use crate::Case;
-use crate::Stage;
-use crate::copies::copy_bytes;
-use crate::copies::copy_values;
-use crate::held::counts_fresh;
 use crate::held::stage_of;
-
-// The number by the stage, and by the places that are needed and there.
-fn refused_by(stage: Stage, needed: usize, places: usize) -> u8
-    ensures { λ r. ⌜ r ≡ refusedBy stage needed places ⌝ }
-{
-    match stage {
-        Stage::Fresh => 23,
-        Stage::Loaded => 23,
-        Stage::Ordered => if places < needed { 25 } else { 0 },
-        Stage::NoOrder => 24,
-    }
-}
+use answers::copies::copy_bytes;
+use answers::results::refused_by;
+use answers::stages::is_fresh_stage;
 
 pub(crate) fn order_refused(c: Case, places: usize) -> u8
     ensures { λ r. ⌜ r ≡ orderRefused c places ⌝ }
 {
     let stage = stage_of(c);
-    if counts_fresh(stage) {
+    if is_fresh_stage(stage) {
         return 23;
     }
     let bytes = c.bytes;
@@ -65,6 +52,5 @@ pub(crate) fn write_table(c: Case, out: &mut [u16])
     let length = c.length;
     let order = c.order;
     let n = log::transactions(&bytes[..length]);
-    let values = replay::tables::table(&bytes[..length], &order[..n]);
-    copy_values(&values, 32, out);
+    answers::results::write_table(&bytes[..length], &order[..n], out);
 }

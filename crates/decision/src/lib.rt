@@ -1,67 +1,107 @@
-// The first legal order of a log, from its bytes: the known edges, the constraints as words, four a constraint, and the search over both.
-// No pruning beforehand: the search prunes by itself, and the first legal order is the same in all six settings.
+// The first legal order of a log, from its bytes, the constraints that pruning 0 or 1 leaves, as candidates' numbers, and the closed words of its known edges.
+// The search prunes by itself, and the first legal order is the same in all six settings.
 ghost use mathlib.Core.Path.{_≡_};
-ghost use Prim.Native.Nat.{_<_, _≤_};
+ghost use Prim.Native.Nat.{_≤_, _*_};
 ghost use lib.ListN.{length};
-ghost use Rattle.model.specs.Log.{loadNumber, historyOf};
-ghost use Rattle.model.specs.Polygraph.{constraints};
-ghost use Rattle.listing.specs.Candidates.{listBy};
-ghost use Rattle.decision.specs.Words.{withWords, WordsOf};
-ghost use Rattle.decision.specs.Answer.{PlannedIn, firstAnswer};
-use model::Constraint;
+ghost use Rattle.model.specs.Log.{transactionsIn, loadNumber, historyOf};
+ghost use Rattle.listing.specs.Candidates.{itemsBy};
+ghost use Rattle.decision.specs.Words.{WordsOf};
+ghost use Rattle.decision.specs.Answer.{SettledIn, firstAnswer};
+use listing::PLACES;
+use listing::WORDS;
 use search::order::Found;
 
-// The n-th constraint, as four words.
-fn put(out: &mut [u32; 16384], n: usize, c: Constraint)
-    requires { ⌜ n < 4096 ⌝ }
-    ensures { λ _. ⌜ now (out .exit) ≡ withWords (now (out .entry)) n c ⌝ }
-{
-    let at = 4 * n;
-    out[at] = c.fromA;
-    out[at + 1] = c.toA;
-    out[at + 2] = c.fromB;
-    out[at + 3] = c.toB;
-}
+// How many constraints are few, and some; and the words that few, some and all take, four each.
+const FEW: usize = 64;
 
-// The constraints of the tables as words, and how many there are. The proof wants the array's length said: its type's number is not a fact about a lent array.
-fn words(tables: &[u32; 3073], out: &mut [u32; 16384]) -> usize
-    requires { ⌜ (length (listBy (now tables)) ≤ 4096) × (length (now out) ≡ 16384) ⌝ }
-    ensures { λ r. ⌜ WordsOf (listBy (now (tables .entry))) r (now (out .exit)) ⌝ }
+const SOME: usize = 512;
+
+const FEW_WORDS: usize = 256;
+
+const SOME_WORDS: usize = 2048;
+
+const ALL_WORDS: usize = 16384;
+
+// The constraints of the first n numbers as words, four each.
+fn words<'a, 'b>(tables: &'a [u32; WORDS], chosen: &'a [u16; PLACES], n: usize, out: &'b mut [u32])
+    requires { ⌜ (n ≤ 4096) × (4 * n ≤ length (now out)) ⌝ }
+    ensures { λ _. ⌜ WordsOf (itemsBy (now (tables .entry)) (now (chosen .entry)) n) n (length (now (out .entry))) (now (out .exit)) ⌝ }
 {
-    let mut at: usize = 0;
-    let mut n: usize = 0;
-    while n < 4096 {
-        let f = listing::find(tables, at);
-        if f.ok == 0 {
-            return n;
-        }
-        let c = f.item;
-        put(out, n, c);
-        at = f.next;
-        n += 1;
+    let mut i: usize = 0;
+    while i < n {
+        search::put_constraint(out, i, listing::nth(tables, chosen, i));
+        i += 1;
     }
-    n
 }
 
-// The first legal order of a log whose constraints the tables list, beside its known edges in the same encoding; or that there is none: 32 numbers, 0
-// behind the order.
-pub fn first_planned(log: &[u8], tables: &[u32; 3073], rows: [u32; 32]) -> Found
-    requires { ⌜ (loadNumber (now log) ≡ 0) × PlannedIn (historyOf (now log)) (now tables) rows ⌝ }
+// The first legal order by at most 64 constraints: a room for 4,096 is more to clear than the search takes where few are left.
+fn first_of_few<'a, 'b>(
+    log: &'a [u8],
+    tables: &'b [u32; WORDS],
+    chosen: &'b [u16; PLACES],
+    n: usize,
+    closed: [u32; 32],
+) -> Found
+    requires { ⌜ (loadNumber (now log) ≡ 0) × (n ≤ 64) × SettledIn (historyOf (now log)) (now tables) (now chosen) n closed ⌝ }
     ensures { λ r. ⌜ r ≡ firstAnswer (historyOf (now (log .entry))) ⌝ }
 {
-    let n = log::transactions(log);
-    let mut out = [0u32; 16384];
-    let count = words(tables, &mut out);
-    search::order::first_order(rows, &out, count, n)
+    let t = log::transactions(log);
+    let mut out = [0u32; FEW_WORDS];
+    words(tables, chosen, n, &mut out);
+    search::order::first_closed(closed, &out, n, t)
 }
 
-// The first legal order of a log, or that there is none: 32 numbers, 0 behind the order. The encoding decides how it is found, not what.
-pub fn first_legal(log: &[u8], encoding: u8) -> Found
-    requires { ⌜ (loadNumber (now log) ≡ 0) × (encoding < 3) × (length (constraints (historyOf (now log)) encoding) ≤ 4096) ⌝ }
+// The same by at most 512.
+fn first_of_some<'a, 'b>(
+    log: &'a [u8],
+    tables: &'b [u32; WORDS],
+    chosen: &'b [u16; PLACES],
+    n: usize,
+    closed: [u32; 32],
+) -> Found
+    requires { ⌜ (loadNumber (now log) ≡ 0) × (n ≤ 512) × SettledIn (historyOf (now log)) (now tables) (now chosen) n closed ⌝ }
     ensures { λ r. ⌜ r ≡ firstAnswer (historyOf (now (log .entry))) ⌝ }
 {
-    let plan = encoding::prepare(log, encoding);
-    let rows = plan.rows;
-    let listed = plan.words;
-    first_planned(log, &listed, rows)
+    let t = log::transactions(log);
+    let mut out = [0u32; SOME_WORDS];
+    words(tables, chosen, n, &mut out);
+    search::order::first_closed(closed, &out, n, t)
+}
+
+// The same by any number.
+fn first_of_many<'a, 'b>(
+    log: &'a [u8],
+    tables: &'b [u32; WORDS],
+    chosen: &'b [u16; PLACES],
+    n: usize,
+    closed: [u32; 32],
+) -> Found
+    requires { ⌜ (loadNumber (now log) ≡ 0) × SettledIn (historyOf (now log)) (now tables) (now chosen) n closed ⌝ }
+    ensures { λ r. ⌜ r ≡ firstAnswer (historyOf (now (log .entry))) ⌝ }
+{
+    let t = log::transactions(log);
+    let mut out = [0u32; ALL_WORDS];
+    words(tables, chosen, n, &mut out);
+    search::order::first_closed(closed, &out, n, t)
+}
+
+// The first legal order of a log whose constraints the first n numbers are, beside the closed words of its known edges in the same setting; or that
+// there is none: 32 numbers, 0 behind the order.
+pub fn first_settled<'a, 'b>(
+    log: &'a [u8],
+    tables: &'b [u32; WORDS],
+    chosen: &'b [u16; PLACES],
+    n: usize,
+    closed: [u32; 32],
+) -> Found
+    requires { ⌜ (loadNumber (now log) ≡ 0) × SettledIn (historyOf (now log)) (now tables) (now chosen) n closed ⌝ }
+    ensures { λ r. ⌜ r ≡ firstAnswer (historyOf (now (log .entry))) ⌝ }
+{
+    if n <= FEW {
+        return first_of_few(log, tables, chosen, n, closed);
+    }
+    if n <= SOME {
+        return first_of_some(log, tables, chosen, n, closed);
+    }
+    first_of_many(log, tables, chosen, n, closed)
 }

@@ -5,9 +5,7 @@ use checker::Decision;
 use checker::Stage;
 use checker::Verdict;
 use direct::Polygraph;
-use model::Constraint;
 use results::Expected;
-use samples::fresh;
 use samples::lines::end;
 use samples::lines::number;
 use samples::lines::text;
@@ -31,16 +29,6 @@ pub struct Tally {
     pub otherwise: u64,
     pub again: u64,
     pub changed: u64,
-}
-
-// What stands in each place of a lent list.
-fn marked(x: u32) -> Constraint {
-    Constraint {
-        fromA: x,
-        toA: x,
-        fromB: x,
-        toB: x,
-    }
 }
 
 // ---- what is expected
@@ -97,7 +85,7 @@ fn stored(c: Case, x: Expected) -> Case {
 fn verdict_number(v: Verdict) -> u8 {
     match v {
         Verdict::Order => 100,
-        Verdict::Without => 101,
+        Verdict::NoOrder => 101,
         Verdict::Refused(n) => n,
     }
 }
@@ -133,14 +121,14 @@ fn repeats(decided: Case, x: Expected, encoding: u8, pruning: u8, p: Polygraph) 
     if count > 4096 {
         return false;
     }
-    let again = lender::decide(decided, encoding, pruning, count, marked(6));
+    let again = lists::decide(decided, encoding, pruning, count, lists::marked(6));
     if !agrees(again, decided, x, p.left) {
         return false;
     }
     if count == 0 {
         return true;
     }
-    let short = lender::decide(decided, encoding, pruning, count - 1, marked(7));
+    let short = lists::decide(decided, encoding, pruning, count - 1, lists::marked(7));
     refuses(short, decided, 25)
 }
 
@@ -148,22 +136,12 @@ fn repeats(decided: Case, x: Expected, encoding: u8, pruning: u8, p: Polygraph) 
 fn setting_agrees(c: Case, log: &[u8], x: Expected, encoding: u8, pruning: u8) -> bool {
     let mut list = [0u32; 16384];
     let p = direct::encoded(log, encoding, pruning, &mut list);
-    let d = lender::decide(c, encoding, pruning, 4096, marked(5));
+    let d = lists::decide(c, encoding, pruning, 4096, lists::marked(5));
     if !agrees(d, c, x, p.left) {
         return false;
     }
     let decided = d.case;
     repeats(decided, x, encoding, pruning, p) && results::agree(decided, x)
-}
-
-// Whether all words are the same.
-fn same_words(a: &[u32; 16384], b: &[u32; 16384]) -> bool {
-    for i in 0..16384usize {
-        if a[i] != b[i] {
-            return false;
-        }
-    }
-    true
 }
 
 // Decide on a list that another log's constraints were written to, each in a setting: whether it is as if it were alone, and the list holds what the
@@ -174,7 +152,7 @@ fn again_agrees(first: &[u8], s: u8, second: &[u8], r: u8, x: Expected) -> bool 
     let two = direct::encoded(second, r / 2 % 3, r % 2, &mut list);
     let c = loaded(second);
     let mut out = [0u32; 16384];
-    let d = lender::decide_again(
+    let d = lists::decide_again(
         loaded(first),
         s / 2 % 3,
         s % 2,
@@ -182,10 +160,10 @@ fn again_agrees(first: &[u8], s: u8, second: &[u8], r: u8, x: Expected) -> bool 
         r / 2 % 3,
         r % 2,
         4096,
-        marked(77),
+        lists::marked(77),
         &mut out,
     );
-    agrees(d, c, x, two.left) && same_words(&out, &list)
+    agrees(d, c, x, two.left) && lists::same_words(&out, &list, 16384)
 }
 
 // ---- the histories
@@ -216,7 +194,7 @@ fn with_decision(t: Tally, yes: bool) -> Tally {
 // Order and Table where the state or a list is not as it must be.
 fn with_refusals(t: Tally, log: &[u8], x: Expected) -> Tally {
     let c = loaded(log);
-    let early = results::refuse(c, x, 23) && results::refuse(fresh(), x, 23);
+    let early = results::refuse(c, x, 23) && results::refuse(Case::fresh(), x, 23);
     let late = results::refuse_decided(stored(c, x), x);
     let mut out = t;
     out.refused = more(t.refused, early && late);
@@ -307,11 +285,19 @@ fn print(name: &[u8], kind: u8) {
 
 // Whether Decide refuses a setting out of range, and any setting of a fresh case, also with no places.
 fn settings_refused(c: Case) -> bool {
-    refuses(lender::decide(c, 3, 0, 4096, marked(1)), c, 12)
-        && refuses(lender::decide(c, 255, 0, 0, marked(1)), c, 12)
-        && refuses(lender::decide(c, 0, 2, 4096, marked(1)), c, 12)
-        && refuses(lender::decide(fresh(), 2, 1, 4096, marked(1)), fresh(), 22)
-        && refuses(lender::decide(fresh(), 3, 2, 0, marked(1)), fresh(), 22)
+    refuses(lists::decide(c, 3, 0, 4096, lists::marked(1)), c, 12)
+        && refuses(lists::decide(c, 255, 0, 0, lists::marked(1)), c, 12)
+        && refuses(lists::decide(c, 0, 2, 4096, lists::marked(1)), c, 12)
+        && refuses(
+            lists::decide(Case::fresh(), 2, 1, 4096, lists::marked(1)),
+            Case::fresh(),
+            22,
+        )
+        && refuses(
+            lists::decide(Case::fresh(), 3, 2, 0, lists::marked(1)),
+            Case::fresh(),
+            22,
+        )
 }
 
 fn main() {

@@ -2,7 +2,6 @@
 use checker::Answer;
 use checker::Case;
 use checker::Reply;
-use samples::reply_number;
 use samples::same_case;
 
 // Whether a history of `size` transactions has a legal order; the first one, with zeros behind it or, where there is none, 32 zeros; and the table that
@@ -47,7 +46,7 @@ fn table_with(c: Case, out: &mut [u16], n: usize) -> Answer {
 fn answered(a: Answer, c: Case, expected: u64) -> bool {
     let r = a.reply;
     let after = a.case;
-    reply_number(r) == expected && same_case(after, c)
+    r.number() as u64 == expected && same_case(after, c)
 }
 
 // Whether the first `size` places hold the order, and the others what they held.

@@ -1,24 +1,21 @@
 -- What a call of each callee gives to a walk that calls it.
---     list-left        `listing::list`, which the list is lent to, beside the tables
+--     list-left        `listing::list`, which the list is lent to, beside the tables and the numbers
 --     prune-left, clear-left       `pruning::prune` and `pruning::clear`, which the list is lent to
 -- Assumes `Given`, and that the callee meets its contract.
-use Rattle.walk.specs.Prelude.{_≡_, refl, _∙_, ℕ, _<_, _≤_, _^_, _-_, List, [], _∷_, _++_, URA, fullShare, named, w8, w64, Val, vint, vptr, SProp, ent, sep, guard, Lft, Share, GName, Fml, flft, Memory, Routine, Heap, Calls, Atoms, sem, Fun, fact, Given, ‵, raw, some, _⊛_, _$_, _∵_, !, qed, move, keep, drop, split, join, pick, show, check, fsplit, fjoin, feqL, frame, done, FmC, unit, RefT, MutSlice, finally, heard, nothing, says, tripleOf, Contract, Triple, ensured, lasts}
-use denote.Ref.{ShrRef}
-use Rattle.walk.specs.Both.{LeftBoth, result-both}
-use Rattle.walk.specs.Kind.{u8K, usizeK, wordsK, vals, Good, have}
-use Rattle.walk.specs.Lending.{Answer, Left, through, result-left}
-use Rattle.walk.specs.Slices.{lent, counted}
+use Rattle.walk.proofs.Prelude.{_≡_, refl, _∙_, ℕ, _<_, _≤_, _^_, _-_, List, [], _∷_, _++_, URA, fullShare, named, w8, w64, Val, vint, vptr, SProp, ent, sep, guard, Lft, Share, GName, flft, Memory, Routine, Heap, Calls, Atoms, sem, Fun, fact, Given, ‵, raw, some, _⊛_, _$_, _∵_, !, qed, move, keep, drop, split, join, pick, show, check, fsplit, fjoin, feqL, frame, done, FmC, unit, RefT, MutSlice, finally, heard, nothing, says, tripleOf, Contract, Triple, ensured, lasts}
+use Rattle.walk.proofs.Both.{LeftBoth, result-both}
+use Rattle.walk.proofs.Kind.{u8K, usizeK, wordsK, vals, Good, have}
+use Rattle.walk.proofs.Lending.{Answer, Left, through, result-left}
+use Rattle.walk.proofs.Slices.{lent, counted}
 use lib.ListN.{length, take, replicate, drop as dropL}
 use Rattle.model.specs.declared.Constraint.{Constraint}
 use Rattle.model.specs.Lent.{noConstraint}
 use Rattle.graph.proofs.Constraints.{R}
-use Rattle.listing.specs.Listing.{Listing}
-use Rattle.listing.specs.declared.Listed.{Listed}
-use Rattle.listing.proofs.Data.{listedK}
+use Rattle.listing.specs.Candidates.{itemsBy}
+use Rattle.listing.proofs.Data.{Lent₂}
 use Rattle.listing.proofs.list as list
 use Rattle.listing.proofs.list.Symbol.{name as #listing·list}
 use Rattle.pruning.specs.Passes.{Aims, Pruning}
-use Rattle.pruning.specs.declared.Pruned.{Pruned}
 use Rattle.pruning.proofs.Data.{prunedK}
 use Rattle.pruning.proofs.prune as prune
 use Rattle.pruning.proofs.prune.Symbol.{name as #pruning·prune}
@@ -26,8 +23,8 @@ use Rattle.pruning.proofs.clear as clear
 use Rattle.pruning.proofs.clear.Symbol.{name as #pruning·clear}
 
 -- what each contract says of its result and of the last list
-abbrev pub Lists : List ℕ → List Constraint → Listed → List Constraint → Type 0
-Lists words ys r zs = Listing words 0 ys r zs
+abbrev pub Listed : List ℕ → List ℕ → ℕ → List Constraint → List Constraint → Type 0
+Listed t ks n ys zs = zs ≡ itemsBy t ks n ++ dropL n ys
 
 abbrev pub Cleared : List Constraint → ℕ → ℕ → List Constraint → Type 0
 Cleared ys start n zs = zs ≡ take start ys ++ (replicate (n - start) noConstraint ++ dropL n ys)
@@ -50,16 +47,17 @@ module _ {M : Type 1} (𝓤 : URA M) (H : Heap 𝓤) (A : Atoms 𝓤) (mem : Mem
     abbrev Lent : ℕ → GName → SProp 𝓤
     Lent ν δ = sem 𝓤 H A (MutSlice (named 0) (ν ∷ []) R .own (lent b o δ ys) (s ∷ []))
 
-    pub list-left : Triple 𝓤 (C #listing·list) List′ → (κ : Lft) (q : Share) (r : RefT (List ℕ)) (ν : ℕ) (δ : GName)
-        → ent 𝓤 (sep 𝓤 (sep 𝓤 (A .lft (ν ∷ []) fullShare) (sem 𝓤 H A (MutSlice (named 1) (ν ∷ []) R .own (lent b o δ ys) (s ∷ [])))) (sep 𝓤 (sem 𝓤 H A (ShrRef (named 0) κ (wordsK 3073 .row) .own r (vptr (r .ptr .0) (r .ptr .1) ∷ []))) (A .lft κ q)))
-        (C #listing·list (vptr (r .ptr .0) (r .ptr .1) ∷ s ∷ []) (LeftBoth 𝓤 H A R m (Answer (listedK .row) (Lists (r .now) ys)) κ q ν δ))
-    list-left known κ q r ν δ =
-        through 𝓤 H A (C #listing·list) (fm #listing·list) List′ known (((κ, (ν ∷ [], tt)), (q, (fullShare, tt)), tt, (r, (lent b o δ ys, tt)), (vptr (r .ptr .0) (r .ptr .1) ∷ [], (s ∷ [], tt))), tt)
-        (qed W ((‵ (flft (ν ∷ []) fullShare) ⊛ ‵ (MutSlice (named 1) (ν ∷ []) R .own (lent b o δ ys) (s ∷ []))) ∷ (‵ (ShrRef (named 0) κ (wordsK 3073 .row) .own r (vptr (r .ptr .0) (r .ptr .1) ∷ [])) ⊛ ‵ (flft κ q)) ∷ []) ∵
-        split ! $ move ! (2 ∷ []) $ split ! $ nothing ! $ move ! (3 ∷ 0 ∷ []) $ join ! $ move ! (2 ∷ 0 ∷ []) $ join ! $ move ! (1 ∷ 2 ∷ []) $ nothing ! $ move ! (2 ∷ 0 ∷ []) $ fjoin ! $ move ! (1 ∷ 0 ∷ []) $ fjoin ! $ move ! (1 ∷ 0 ∷ []) $ join ! $ frame ! $ done !)
-        (LeftBoth 𝓤 H A R m (Answer (listedK .row) (Lists (r .now) ys)) κ q ν δ) (result-both 𝓤 H A W R (listedK .row) m κ q ν δ (ensured 𝓤 H A list.ended (list.clauses 𝓤 H A mem run) (κ, (ν ∷ [], tt)) (r, (lent b o δ ys, tt)) tt) (Lists (r .now) ys)
-        (λ w. qed W (some (λ (ws : Unit {0} × (List Constraint × Unit {0})). ‵ (lasts list.ended (κ, (ν ∷ [], tt)) (r, (lent b o δ ys, tt)) ws) ⊛ raw (fact 𝓤 (Lists (r .now) ys w (ws .1 .0)))) ∷ []) ∵ pick ! (λ ws. split ! $ move ! (1 ∷ []) $ heard ! (Lists (r .now) ys w (ws .1 .0)) (λ e.
-        fsplit ! $ drop ! $ fsplit ! $ fsplit ! $ move ! (1 ∷ []) $ feqL ! (λ len. show ! (λ (zs : List Constraint). guard 𝓤 (Lists (r .now) ys w zs × (length zs ≡ m)) (sem 𝓤 H A (finally R δ zs))) (ws .1 .0) $ check ! (e, len ∙ e-ys) $ keep ! (0 ∷ []) $ done !)))))
+    pub list-left : Triple 𝓤 (C #listing·list) List′ → (κ : Lft) (q : Share) (r₀ r₁ : RefT (List ℕ)) (n : ℕ) → n < 2 ^ 64 → (n ≤ 4096) × (n ≤ length ys) → (ν : ℕ) (δ : GName)
+        → ent 𝓤 (sep 𝓤 (sep 𝓤 (A .lft (ν ∷ []) fullShare) (sem 𝓤 H A (MutSlice (named 1) (ν ∷ []) R .own (lent b o δ ys) (s ∷ [])))) (sep 𝓤 (sem 𝓤 H A (Lent₂ (named 0) κ r₀ r₁)) (A .lft κ q)))
+        (C #listing·list (vptr (r₀ .ptr .0) (r₀ .ptr .1) ∷ vptr (r₁ .ptr .0) (r₁ .ptr .1) ∷ vint w64 n ∷ s ∷ []) (LeftBoth 𝓤 H A R m (Answer unit (λ _. Listed (r₀ .now) (r₁ .now) n ys)) κ q ν δ))
+    list-left known κ q r₀ r₁ n n-fits within ν δ =
+        through 𝓤 H A (C #listing·list) (fm #listing·list) List′ known (((κ, (ν ∷ [], tt)), (q, (fullShare, tt)), tt, (r₀, (r₁, (n, (lent b o δ ys, tt)))), (vptr (r₀ .ptr .0) (r₀ .ptr .1) ∷ [], (vptr (r₁ .ptr .0) (r₁ .ptr .1) ∷ [], (vint w64 n ∷ [], (s ∷ [], tt))))), tt)
+        (qed W ((‵ (flft (ν ∷ []) fullShare) ⊛ ‵ (MutSlice (named 1) (ν ∷ []) R .own (lent b o δ ys) (s ∷ []))) ∷ (‵ (Lent₂ (named 0) κ r₀ r₁) ⊛ ‵ (flft κ q)) ∷ []) ∵
+        split ! $ move ! (2 ∷ []) $ split ! $ says ! within $ nothing ! $ move ! (3 ∷ 0 ∷ []) $ join ! $ move ! (2 ∷ 0 ∷ []) $ join ! $ frame ! $
+        fsplit ! $ nothing ! $ move ! (3 ∷ 0 ∷ []) $ fjoin ! $ have ! usizeK n _ (refl, n-fits) $ fjoin ! $ move ! (2 ∷ 0 ∷ []) $ fjoin ! $ move ! (1 ∷ 0 ∷ []) $ fjoin ! $ done !)
+        (LeftBoth 𝓤 H A R m (Answer unit (λ _. Listed (r₀ .now) (r₁ .now) n ys)) κ q ν δ) (result-both 𝓤 H A W R unit m κ q ν δ (ensured 𝓤 H A list.ended (list.clauses 𝓤 H A mem run) (κ, (ν ∷ [], tt)) (r₀, (r₁, (n, (lent b o δ ys, tt)))) tt) (λ _. Listed (r₀ .now) (r₁ .now) n ys)
+        (λ _. qed W (some (λ (ws : Unit {0} × (Unit {0} × (Unit {0} × (List Constraint × Unit {0})))). ‵ (lasts list.ended (κ, (ν ∷ [], tt)) (r₀, (r₁, (n, (lent b o δ ys, tt)))) ws) ⊛ raw (fact 𝓤 (Listed (r₀ .now) (r₁ .now) n ys (ws .1 .1 .1 .0)))) ∷ []) ∵ pick ! (λ ws. split ! $ move ! (1 ∷ []) $ heard ! (Listed (r₀ .now) (r₁ .now) n ys (ws .1 .1 .1 .0)) (λ e.
+        fsplit ! $ drop ! $ fsplit ! $ drop ! $ fsplit ! $ drop ! $ fsplit ! $ fsplit ! $ move ! (1 ∷ []) $ feqL ! (λ len. show ! (λ (zs : List Constraint). guard 𝓤 (Listed (r₀ .now) (r₁ .now) n ys zs × (length zs ≡ m)) (sem 𝓤 H A (finally R δ zs))) (ws .1 .1 .1 .0) $ check ! (e, len ∙ e-ys) $ keep ! (0 ∷ []) $ done !)))))
 
     pub prune-left : Triple 𝓤 (C #pruning·prune) Prune → (rs : List ℕ) (n pruning : ℕ) → Good (wordsK 32) rs → n < 2 ^ 64 → pruning < 2 ^ 8 → (n ≤ length ys) × Aims ys n → (ν : ℕ) (δ : GName)
         → ent 𝓤 (sep 𝓤 (A .lft (ν ∷ []) fullShare) (Lent ν δ)) (C #pruning·prune (wordsK 32 .val rs ∷ s ∷ vint w64 n ∷ vint w8 pruning ∷ []) (Left 𝓤 H A R m (Answer (prunedK .row) (Pruning rs ys n pruning)) ν δ))

@@ -12,7 +12,7 @@ use denote.RattleType.{RattleType}
 use denote.Slice.{Room}
 use denote.Index.{place, place-is}
 use denote.Struct.Laws as LL
-use Rattle.walk.specs.Kind.{Kind, of-declared, Good, good}
+use Rattle.walk.proofs.Kind.{Kind, of-declared, Good, good}
 use Rattle.model.specs.declared.Constraint.{Constraint}
 use Rattle.model.specs.Lent.{noConstraint}
 use Rattle.model.proofs.Constraint as C

@@ -1,5 +1,5 @@
 -- Words as the code makes them: without a bit, the lowest bit, words in one, and tables filled place by place. Assumes nothing.
-use Prim.Native.Nat.{ℕ, zero, suc, _+_, _*_, _/_, _%_, _^_, _≤_, _<_}
+use Prim.Native.Nat.{ℕ, zero, suc, _+_, _*_, _-_, _/_, _%_, _^_, _≤_, _<_, min}
 use native.Mathlib.Omega.{arith}
 use native.Mathlib.Numerals.{add-one}
 use native.Mathlib.Nat.{mod-lt, zero-lt-suc, not-suc-le-zero}
@@ -7,8 +7,8 @@ use mathlib.Core.Path.{_≡_, refl, sym, ap, ap₂, subst, _∙_}
 use mathlib.Core.Logic.{_⊎_, inl, inr, ⊎-elim, _≢_}
 use mathlib.Core.Bool.{Bool, true, false, not, cond, _&&_, _||_, or-false}
 use mathlib.Core.List.{List, [], _∷_, _++_, map}
-use lib.Dec.{T, eqb, ltb, eqb→eq}
-use lib.Bits.{bitAnd, bitOr, bitXor, differ, xor-step, or-lt, xor-lt, and-le-l}
+use lib.Dec.{T, eqb, ltb, eqb→eq, eqb·suc-suc, eqb·suc-zero}
+use lib.Bits.{bitAnd, bitOr, bitXor, differ, xor-step, and-step, and-self, or-lt, xor-lt, and-le-l}
 use lib.Count.{trailingZeros, under}
 use lib.Pow.{pow-pos}
 use lib.ListN.{length, getD, set, length-set}
@@ -123,6 +123,87 @@ unfolding trailingZeros
 lowest zero w l f = absurd (f (omega arith))
 lowest (suc k) w l f =
     low-step k w (w % 2) (trailingZeros k (w / 2)) refl (λ z. lowest k (w / 2) (omega arith) (λ y. f (omega arith)))
+
+pub positive : (m : ℕ) → m ≢ 0 → 0 < m
+positive zero f = absurd (f refl)
+positive (suc m) f = omega arith
+
+pub and-not : (a : Bool) → a ≡ (a && not false)
+and-not true = refl
+and-not false = refl
+
+pub and-none : (a : Bool) → false ≡ (a && not true)
+and-none true = refl
+and-none false = refl
+
+-- it is taken away
+pub low-cleared : (k m s : ℕ) → m ≢ 0 → m < 2 ^ k → bit (bitAnd m (m - 1)) s ≡ (bit m s && not (eqb s (trailingZeros k m)))
+unfolding trailingZeros
+low-cleared zero m s h l = absurd (h (omega arith))
+low-cleared (suc k) m s h l = go (m % 2) refl s (λ q s. low-cleared k (m / 2) s (λ e. h (omega arith)) (omega arith))
+  where
+    even : m % 2 ≡ 0 → bitAnd m (m - 1) ≡ bitAnd (m / 2) (m / 2 - 1) * 2
+    even e =
+        let a : (m - 1) / 2 ≡ m / 2 - 1 = omega (arith, positive m h) in
+        let b : (m - 1) % 2 ≡ 1 = omega (arith, positive m h) in
+        and-step m (m - 1) ∙ ap₂ (λ (x y : ℕ). bitAnd (m / 2) x * 2 + min (m % 2) y) a b ∙ omega arith
+
+    odd : m % 2 ≡ 1 → bitAnd m (m - 1) ≡ m / 2 * 2
+    odd e =
+        let a : (m - 1) / 2 ≡ m / 2 = omega arith in
+        let b : (m - 1) % 2 ≡ 0 = omega arith in
+        and-step m (m - 1) ∙ ap₂ (λ (x y : ℕ). bitAnd (m / 2) x * 2 + min (m % 2) y) a b ∙ ap (λ (x : ℕ). x * 2 + min (m % 2) 0) (and-self (m / 2)) ∙ omega arith
+
+    -- bits of twice a number
+    first : (x : ℕ) → bit (x * 2) 0 ≡ false
+    first x = let e : x * 2 % 2 ≡ 0 = omega arith in bit-low (x * 2) ∙ ap (λ (y : ℕ). eqb y 1) e
+
+    later : (x s : ℕ) → bit (x * 2) (suc s) ≡ bit x s
+    later x s = let e : x * 2 / 2 ≡ x = omega arith in bit-half (x * 2) s ∙ ap (λ (y : ℕ). bit y s) e
+
+    no-first : m % 2 ≡ 0 → (b : Bool) → false ≡ (bit m 0 && not b)
+    no-first e b = sym (ap (λ (x : Bool). x && not b) (bit-low m ∙ ap (λ (y : ℕ). eqb y 1) e))
+
+    go : (r : ℕ) → m % 2 ≡ r → (s : ℕ) → (m % 2 ≡ 0 → (s : ℕ) → bit (bitAnd (m / 2) (m / 2 - 1)) s ≡ (bit (m / 2) s && not (eqb s (trailingZeros k (m / 2)))))
+        → bit (bitAnd m (m - 1)) s ≡ (bit m s && not (eqb s (under r (trailingZeros k (m / 2)))))
+    go zero e zero f = ap (λ (x : ℕ). bit x 0) (even e) ∙ first (bitAnd (m / 2) (m / 2 - 1)) ∙ no-first e (eqb 0 (suc (trailingZeros k (m / 2))))
+    go zero e (suc s) f =
+        ap (λ (x : ℕ). bit x (suc s)) (even e) ∙ later (bitAnd (m / 2) (m / 2 - 1)) s ∙ f e s
+        ∙ ap₂ (λ (x y : Bool). x && not y) (sym (bit-half m s)) (sym (eqb·suc-suc s (trailingZeros k (m / 2))))
+    go (suc r) e zero f =
+        let o : m % 2 ≡ 1 = omega arith in
+        ap (λ (x : ℕ). bit x 0) (odd o) ∙ first (m / 2) ∙ and-none (bit m 0)
+    go (suc r) e (suc s) f =
+        let o : m % 2 ≡ 1 = omega arith in
+        ap (λ (x : ℕ). bit x (suc s)) (odd o) ∙ later (m / 2) s ∙ sym (bit-half m s) ∙ and-not (bit m (suc s))
+        ∙ ap (λ (x : Bool). bit m (suc s) && not x) (sym (eqb·suc-zero s))
+
+-- it is taken alone
+pub low-alone : (m x s : ℕ) → m < 2 ^ 32 → x < 2 ^ 32 → (x + 1) % 2 ^ 32 ≡ m
+    → bit (bitXor m (bitAnd m x)) s ≡ (bit m s && eqb s (trailingZeros 32 m))
+low-alone m x s l k e = ⊎-elim none some (same? m 0)
+  where
+    none : m ≡ 0 → bit (bitXor m (bitAnd m x)) s ≡ (bit m s && eqb s (trailingZeros 32 m))
+    none z =
+        let o : bit m s ≡ false = ap (λ (y : ℕ). bit y s) z ∙ bit-none s in
+        bit-minus m x s ∙ ap (λ (y : Bool). y && not (bit x s)) o ∙ sym (ap (λ (y : Bool). y && eqb s (trailingZeros 32 m)) o)
+
+    twice : (a b c : Bool) → c ≡ (a && not b) → (a && not c) ≡ (a && b)
+    twice true true c q = ap not q
+    twice true false c q = ap not q
+    twice false b c q = refl
+
+    some : m ≢ 0 → bit (bitXor m (bitAnd m x)) s ≡ (bit m s && eqb s (trailingZeros 32 m))
+    some h =
+        let w : x ≡ m - 1 = omega (arith, positive m h) in
+        let c : bit (bitAnd m x) s ≡ (bit m s && not (eqb s (trailingZeros 32 m))) = ap (λ (y : ℕ). bit (bitAnd m y) s) w ∙ low-cleared 32 m s h l in
+        let d : bit (bitXor m (bitAnd m x)) s ≡ (bit m s && not (bit (bitAnd m x) s)) =
+        bit-minus m x s ∙ own (bit m s) (bit x s) ∙ ap (λ (y : Bool). bit m s && not y) (sym (bit-and m x s)) in
+        d ∙ twice (bit m s) (eqb s (trailingZeros 32 m)) (bit (bitAnd m x) s) c
+      where
+        own : (a b : Bool) → (a && not b) ≡ (a && not (a && b))
+        own true b = refl
+        own false b = refl
 
 -- the first that passes, of 0, 1, ... n - 1
 first-more : {A : Type 0} (d : A) (p : A → Bool) (xs ys : List A) → firstOr d p (xs ++ ys) ≡ firstOr (firstOr d p ys) p xs

@@ -4,7 +4,7 @@ ghost use mathlib.Core.Path.{_≡_};
 ghost use mathlib.Core.List.{List};
 ghost use Prim.Native.Nat.{ℕ, _<_};
 ghost use Rattle.model.specs.Polygraph.{withSide, through, reach, closedOff};
-ghost use Rattle.model.specs.RowWords.{Tidy, «cyclic»};
+ghost use Rattle.model.specs.RowWords.{Tidy, «cyclic», sideIn};
 ghost use Rattle.graph.specs.Bodies.{pointed, absorbed, extendedRow};
 
 pub mod mask;
@@ -86,18 +86,42 @@ fn extend_row(from: u32, add: u32, u: u32, row: u32) -> u32
     }
 }
 
-// The closed words of a graph, from those before an edge to `to` was added from each node of the set `from`.
+// The closed words of a graph with an edge to `to` from each node of the set `from`, in place of those before.
+pub fn take(rows: &mut [u32; 32], from: u32, to: u32)
+    requires { ⌜ to < 32 ⌝ }
+    ensures { λ _. ⌜ ((g : List ℕ) → now (rows .entry) ≡ reach g → Tidy g → now (rows .exit) ≡ reach (withSide g from to)) ⌝ }
+{
+    let row = rows[to as usize];
+    let add = with(row, to);
+    for i in 0..32 {
+        rows[i] = extend_row(from, add, i as u32, rows[i]);
+    }
+}
+
+// The same by value.
 pub fn extend(closed: [u32; 32], from: u32, to: u32) -> [u32; 32]
     requires { ⌜ to < 32 ⌝ }
     ensures { λ r. ⌜ ((g : List ℕ) → closed ≡ reach g → Tidy g → r ≡ reach (withSide g from to)) ⌝ }
 {
-    let row = closed[to as usize];
-    let add = with(row, to);
     let mut out = closed;
-    for i in 0..32 {
-        out[i] = extend_row(from, add, i as u32, out[i]);
-    }
+    take(&mut out, from, to);
     out
+}
+
+// Whether the rows have every edge of a side.
+pub fn side_held(rows: &[u32; 32], from: u32, to: u32) -> bool
+    requires { ⌜ to < 32 ⌝ }
+    ensures { λ r. ⌜ r ≡ sideIn (now (rows .entry)) from to ⌝ }
+{
+    let mut m = from;
+    while m != 0 {
+        let s = u32::trailing_zeros(m);
+        if !has(rows[s as usize], to) {
+            return false;
+        }
+        m = mask::clear_low(m);
+    }
+    true
 }
 
 // Whether a graph has a cycle, from its closed words.

@@ -1,7 +1,10 @@
 // Sets of nodes below 32, as words: bit v stands for v.
 ghost use mathlib.Core.Path.{_≡_};
-ghost use Prim.Native.Nat.{_<_, _^_};
+ghost use mathlib.Core.Bool.{not, _&&_};
+ghost use Prim.Native.Nat.{ℕ, _<_, _^_};
 ghost use lib.Bits.{bitOr};
+ghost use lib.Count.{trailingZeros};
+ghost use lib.Dec.{eqb};
 ghost use Rattle.model.specs.Lists.{bit};
 ghost use Rattle.graph.specs.Masks.{putIf};
 
@@ -35,4 +38,19 @@ pub fn without(mask: u32, v: u32) -> u32
     ensures { λ r. ⌜ r ≡ Rattle.graph.specs.Masks.without mask v ⌝ }
 {
     mask ^ (mask & (1 << v))
+}
+
+// The set without its lowest member.
+pub fn clear_low(set: u32) -> u32
+    requires { ⌜ ((set ≡ 0) → ⊥) ⌝ }
+    ensures { λ r. ⌜ (r < set) × ((s : ℕ) → bit r s ≡ (bit set s && not (eqb s (trailingZeros 32 set)))) ⌝ }
+{
+    set & (set - 1)
+}
+
+// The lowest member of a set, as a set; of none, none.
+pub fn lowest(set: u32) -> u32
+    ensures { λ r. ⌜ ((s : ℕ) → bit r s ≡ (bit set s && eqb s (trailingZeros 32 set))) ⌝ }
+{
+    set ^ (set & std::num::wrapping_sub_u32(set, 1))
 }

@@ -1,9 +1,8 @@
 // Document 01's histories A to J and the program's example, through the calls: what Load says, what Decide says and in how many of the six settings, and
 // how many constraints Encode gives in encodings 0, 1 and 2, before pruning and after it. Then what Judge prints for each kind of answer.
+use checker::Case;
 use checker::Decision;
 use checker::Verdict;
-use model::Constraint;
-use samples::fresh;
 use samples::lines::end;
 use samples::lines::number;
 use samples::lines::text;
@@ -12,35 +11,16 @@ use samples::loaded;
 
 // ---- the calls
 
-// What stands in each place of a lent list.
-fn mark() -> Constraint {
-    Constraint {
-        fromA: 9,
-        toA: 9,
-        fromB: 9,
-        toB: 9,
-    }
-}
-
 // What Decide says in setting s, counted by encoding, then pruning.
 fn decided(log: &[u8], s: u8) -> Decision {
-    lender::decide(loaded(log), s / 2, s % 2, 4096, mark())
+    lender::decide(loaded(log), s / 2, s % 2)
 }
 
 // How many constraints Encode gives.
 fn left(log: &[u8], encoding: u8, pruning: u8) -> u64 {
     let mut rows = [0u32; 32];
     let mut out = [0u32; 16384];
-    let e = lender::encode(
-        loaded(log),
-        encoding,
-        pruning,
-        4096,
-        mark(),
-        true,
-        &mut rows,
-        &mut out,
-    );
+    let e = lender::encode(loaded(log), encoding, pruning, &mut rows, &mut out);
     e.left as u64
 }
 
@@ -48,7 +28,7 @@ fn left(log: &[u8], encoding: u8, pruning: u8) -> u64 {
 fn verdict_number(v: Verdict) -> u64 {
     match v {
         Verdict::Order => 100,
-        Verdict::Without => 101,
+        Verdict::NoOrder => 101,
         Verdict::Refused(n) => n as u64,
     }
 }
@@ -91,7 +71,7 @@ fn print_decision(d: Decision, n: usize) {
     let order = d.order;
     match v {
         Verdict::Order => print_order(order, n),
-        Verdict::Without => text(b" no order"),
+        Verdict::NoOrder => text(b" no order"),
         Verdict::Refused(r) => print_refusal(r),
     }
 }
@@ -105,7 +85,7 @@ fn print_refusal(n: u8) {
 fn show(name: &[u8], log: &[u8], n: usize) {
     text(name);
     text(b": load");
-    number(load_number(fresh(), log));
+    number(load_number(Case::fresh(), log));
     text(b";");
     print_decision(decided(log, 0), n);
     text(b" in");
@@ -156,16 +136,7 @@ fn print_side(name: &[u8], from: u32, to: u32) {
 fn show_polygraph(name: &[u8], log: &[u8], encoding: u8) {
     let mut rows = [0u32; 32];
     let mut out = [0u32; 16384];
-    let e = lender::encode(
-        loaded(log),
-        encoding,
-        0,
-        4096,
-        mark(),
-        true,
-        &mut rows,
-        &mut out,
-    );
+    let e = lender::encode(loaded(log), encoding, 0, &mut rows, &mut out);
     text(name);
     text(b": constraints");
     number(e.left as u64);

@@ -9,8 +9,8 @@ use lib.ListN.{length, replicate}
 use borrow.Author.Tests.{ne-eqb}
 use Rattle.model.specs.Log.{loadNumber}
 use Rattle.checker.specs.declared.Case.{Case}
-use Rattle.checker.specs.declared.Verdict.{Verdict}
-use Rattle.checker.specs.declared.Verdict.the-variants.{Order, Without, Refused}
+use Rattle.answers.specs.declared.Verdict.{Verdict}
+use Rattle.answers.specs.declared.Verdict.the-variants.{Order, NoOrder, Refused}
 use Rattle.checker.specs.Cases.{loadedCase}
 use Rattle.model.specs.Lent.{noConstraint}
 use Rattle.checker.specs.declared.Encoding.{Encoding}
@@ -34,7 +34,7 @@ decide-writes-with-0-alone log e pruning order table = go (eqb (loadNumber log) 
         → (cond b (whereOrdered v (orderOf c order (length table)) order) order ≡ order) × (cond b (whereOrdered v (tableOf c (length order) table) table) table ≡ table)
     go false v f = (refl, refl)
     go true Order f = let k = kept c order table f in (sym (k .0), sym (k .1))
-    go true Without f = (refl, refl)
+    go true NoOrder f = (refl, refl)
     go true (Refused n) f = (refl, refl)
 
 pub encode-writes-with-0-alone : (log : List ℕ) (e pruning : ℕ) (out : List ℕ) → encodeCode log e pruning (length out) ≢ 0 → encodeAfter log e pruning out ≡ out

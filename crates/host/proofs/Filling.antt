@@ -11,7 +11,6 @@ use native.Mathlib.Omega.{arith}
 use mathlib.Core.List.{List}
 use lib.ListN.{length, set, length-set, getD, replicate, length-replicate}
 use Rattle.model.specs.declared.Constraint.{Constraint}
-use Rattle.model.specs.Lent.{noConstraint}
 use Rattle.lender.specs.Packing.{packed}
 use Rattle.lender.proofs.Packs.{packed-each}
 use Rattle.host.specs.Images.{pairBytes, wordBytes, filled, constraintBytes, constraintIn, valueIn, rowIn, wordsIn}

@@ -1,4 +1,5 @@
 pub mod Filling
 pub mod Taking
 pub mod Writing
+pub mod Deciding
 pub mod Demands

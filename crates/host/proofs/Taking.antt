@@ -1,25 +1,13 @@
 -- Laws of what stands where Load takes a log, and where it does not.
---     fresh-number, fresh-case     what a fresh case gives
 --     where-refused, where-taken   of a number that is Load's: what stands where it is not 0, and where it is
 -- Assumes nothing.
-use mathlib.Core.Path.{_≡_, refl, sym, ap, _∙_}
+use mathlib.Core.Path.{_≡_, sym, ap, _∙_}
 use Prim.Native.Nat.{ℕ}
 use mathlib.Core.Bool.{cond}
 use mathlib.Core.List.{List}
-use lib.Dec.{eqb}
 use borrow.Author.Tests.{eq-eqb, ne-eqb}
 use Rattle.model.specs.Log.{loadNumber}
-use Rattle.checker.specs.Cases.{freshCase, loadedCase, stageOf, counted}
-use Rattle.checker.specs.Calls.{loadRefusal, caseAfterLoad}
 use Rattle.host.specs.Codes.{whereLoaded}
-
-pub fresh-number : (log : List ℕ) → loadRefusal freshCase log ≡ loadNumber log
-unfolding loadRefusal stageOf counted freshCase
-fresh-number log = refl
-
-pub fresh-case : (log : List ℕ) → loadNumber log ≡ 0 → caseAfterLoad freshCase log ≡ loadedCase log
-unfolding caseAfterLoad
-fresh-case log z = ap (λ b. cond b (loadedCase log) freshCase) (eq-eqb (loadRefusal freshCase log) 0 (fresh-number log ∙ z))
 
 module _ (log : List ℕ) (n k : ℕ) (is : n ≡ k) (loads : k ≡ loadNumber log) where
   pub where-refused : {X : Type 0} (x y : X) → (n ≡ 0 → ⊥) → y ≡ whereLoaded log x y

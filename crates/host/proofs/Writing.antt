@@ -1,20 +1,17 @@
 -- Laws of what is written of a case that is decided, and of a polygraph: the table is too short, the order is, or both have room.
 -- Assumes nothing.
-use mathlib.Core.Path.{_≡_, refl, sym, ap, _∙_}
+use mathlib.Core.Path.{_≡_, sym, ap, _∙_}
 use Prim.Native.Nat.{ℕ, _+_, _*_, _<_, _≤_}
 use native.Mathlib.Omega.{arith}
-use mathlib.Core.Bool.{Bool, cond}
+use mathlib.Core.Bool.{cond}
 use mathlib.Core.List.{List}
-use lib.Dec.{eqb, ltb}
+use lib.Dec.{ltb}
 use lib.ListN.{length, replicate}
 use borrow.Author.Tests.{eq-eqb, ne-eqb, lt-ltb, le-ltb}
-use Rattle.model.specs.declared.Constraint.{Constraint}
-use Rattle.model.specs.Log.{transactionsIn}
-use Rattle.model.specs.Lent.{noConstraint, writtenOrder}
-use Rattle.checker.specs.Cases.{contents}
+use Rattle.model.specs.Lent.{noConstraint}
 use Rattle.checker.specs.declared.Case.{Case}
 use Rattle.checker.specs.declared.Encoding.{Encoding}
-use Rattle.checker.specs.Answers.{numberOf}
+use Rattle.answers.specs.Numbers.{numberOf}
 use Rattle.checker.specs.Encodings.{encodeAnswer, encodeList, encodeRows}
 use Rattle.checker.specs.Results.{orderRefused, orderLeft, tableLeft}
 use Rattle.lender.specs.Packing.{packed}
@@ -42,20 +39,18 @@ module _ (c : Case) (order table : List ℕ) where
       let k = kept (λ z. absurd (omega (arith, is, z))) in
       (sym is, k)
 
-  module _ (n : ℕ) (order′ : List ℕ) (is : n ≡ orderRefused c (length order)) (left : order′ ≡ orderLeft c order) (room : 64 ≤ length table) where
+  module _ (n : ℕ) (is : n ≡ orderRefused c (length order)) (room : 64 ≤ length table) where
     as-order : code ≡ n
     unfolding roomCode
     as-order = ap (λ b. cond b 25 (orderRefused c (length order))) (le-ltb (length table) 64 room) ∙ sym is
 
-    pub order-short : (n ≡ 0 → ⊥) → Written c order table n order′ table
-    unfolding orderLeft
-    order-short not0 =
-        let k = kept (λ z. not0 (sym as-order ∙ z)) in
-        (sym as-order, (left ∙ ap (λ b. cond b (writtenOrder (transactionsIn (contents c)) (c .order) order) order) (ne-eqb (orderRefused c (length order)) 0 (λ z. not0 (is ∙ z))) ∙ k .0, k .1))
+    pub order-short : (n ≡ 0 → ⊥) → Written c order table n order table
+    order-short not0 = (sym as-order, kept (λ z. not0 (sym as-order ∙ z)))
 
-    pub both-written : (table′ : List ℕ) → n ≡ 0 → table′ ≡ filled (valueIn (tableLeft c (replicate 32 0))) 32 table → Written c order table 0 order′ table′
+    pub both-written : (order′ : List ℕ) → order′ ≡ orderLeft c order → (table′ : List ℕ) → n ≡ 0
+        → table′ ≡ filled (valueIn (tableLeft c (replicate 32 0))) 32 table → Written c order table 0 order′ table′
     unfolding orderOf tableOf
-    both-written table′ z t = (
+    both-written order′ left table′ z t = (
       sym (as-order ∙ z),
       (
         left ∙ sym (ap (λ b. cond b (orderLeft c order) order) (eq-eqb code 0 (as-order ∙ z))),

@@ -1,7 +1,7 @@
 -- What each function gives and leaves, of the case that a log is loaded into: 0, 255 or the refusal's number, and what is written where it is 0.
 -- The numbers of Load come first, then those of the call. Assumes nothing.
 use Prim.Native.Nat.{ℕ, _+_, _*_}
-use mathlib.Core.Bool.{cond}
+use mathlib.Core.Bool.{true, cond}
 use mathlib.Core.List.{List}
 use lib.Dec.{eqb, ltb}
 use lib.ListN.{length, replicate}
@@ -10,14 +10,16 @@ use Rattle.model.specs.Lent.{noConstraint}
 use Rattle.checker.specs.declared.Case.{Case}
 use Rattle.checker.specs.declared.Decision.{Decision}
 use Rattle.checker.specs.declared.Encoding.{Encoding}
-use Rattle.checker.specs.declared.Judgement.{Judgement}
-use Rattle.checker.specs.declared.Judgement.the-variants.{Legal, Illegal, Refused}
-use Rattle.checker.specs.declared.Verdict.{Verdict}
-use Rattle.checker.specs.declared.Verdict.the-variants.{Order, Without, Refused as RefusedVerdict}
-use Rattle.checker.specs.Answers.{numberOf}
+use Rattle.answers.specs.declared.Judgement.{Judgement}
+use Rattle.answers.specs.declared.Judgement.the-variants.{Legal, Illegal, Refused}
+use Rattle.answers.specs.declared.Verdict.{Verdict}
+use Rattle.answers.specs.declared.Verdict.the-variants.{Order, NoOrder, Refused as RefusedVerdict}
+use Rattle.answers.specs.declared.deciding.Outcome.{Outcome}
+use Rattle.answers.specs.Numbers.{numberOf}
 use Rattle.checker.specs.Cases.{loadedCase}
 use Rattle.checker.specs.Calls.{checking}
 use Rattle.checker.specs.Decisions.{deciding}
+use Rattle.checker.specs.Preparing.{storing, foundBy}
 use Rattle.checker.specs.Encodings.{encodeAnswer, encodeList, encodeRows}
 use Rattle.checker.specs.Results.{orderRefused, orderLeft, tableLeft}
 use Rattle.host.specs.Images.{filled, valueIn, polygraphIn}
@@ -31,13 +33,13 @@ judgementCode (Refused n) = n
 -- 255 for 'no order', the refusal's number, or, where there is an order, what is given
 abbrev pub verdictCode : Verdict → ℕ → ℕ
 verdictCode Order n = n
-verdictCode Without n = 255
+verdictCode NoOrder n = 255
 verdictCode (RefusedVerdict m) n = m
 
 -- what stands where there is an order, and else
 abbrev pub whereOrdered : {X : Type 0} → Verdict → X → X → X
 whereOrdered Order x y = x
-whereOrdered Without x y = y
+whereOrdered NoOrder x y = y
 whereOrdered (RefusedVerdict m) x y = y
 
 -- what stands where Load takes the log, and else
@@ -62,20 +64,31 @@ tableOf c order table = cond (eqb (roomCode c order (length table)) 0) (filled (
 abbrev pub decisionOf : List ℕ → ℕ → ℕ → Decision
 decisionOf log e pruning = deciding (loadedCase log) e pruning 4096
 
+-- the code of a decision, and the two lists after it
+abbrev pub saidCode : Decision → ℕ → ℕ → ℕ
+saidCode d order table = verdictCode (d .verdict) (roomCode (d .case) order table)
+
+abbrev pub saidOrder : Decision → List ℕ → ℕ → List ℕ
+saidOrder d order table = whereOrdered (d .verdict) (orderOf (d .case) order table) order
+
+abbrev pub saidTable : Decision → ℕ → List ℕ → List ℕ
+saidTable d order table = whereOrdered (d .verdict) (tableOf (d .case) order table) table
+
+-- the case that stands for a log with the numbers of an order, and the decision that stands for what is found over a log
+abbrev pub orderedCase : List ℕ → List ℕ → Case
+orderedCase log numbers = storing (loadedCase log) 0 true numbers
+
+abbrev pub foundDecision : List ℕ → Outcome → Decision
+foundDecision log o = foundBy (loadedCase log) (o .number) (o .found) (o .order) (o .left)
+
 unfoldable pub decideCode : List ℕ → ℕ → ℕ → ℕ → ℕ → ℕ
-decideCode log e pruning order table =
-    let d = decisionOf log e pruning in
-    whereLoaded log (verdictCode (d .verdict) (roomCode (d .case) order table)) (loadNumber log)
+decideCode log e pruning order table = whereLoaded log (saidCode (decisionOf log e pruning) order table) (loadNumber log)
 
 unfoldable pub orderAfter : List ℕ → ℕ → ℕ → List ℕ → ℕ → List ℕ
-orderAfter log e pruning order table =
-    let d = decisionOf log e pruning in
-    whereLoaded log (whereOrdered (d .verdict) (orderOf (d .case) order table) order) order
+orderAfter log e pruning order table = whereLoaded log (saidOrder (decisionOf log e pruning) order table) order
 
 unfoldable pub tableAfter : List ℕ → ℕ → ℕ → ℕ → List ℕ → List ℕ
-tableAfter log e pruning order table =
-    let d = decisionOf log e pruning in
-    whereLoaded log (whereOrdered (d .verdict) (tableOf (d .case) order table) table) table
+tableAfter log e pruning order table = whereLoaded log (saidTable (decisionOf log e pruning) order table) table
 
 -- Of Encode's answer: 25 where there are fewer bytes than the polygraph takes.
 unfoldable pub polygraphCode : Encoding → ℕ → ℕ

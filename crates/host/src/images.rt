@@ -3,7 +3,6 @@ ghost use mathlib.Core.Path.{_≡_};
 ghost use Prim.Native.Nat.{_≤_, _*_, _+_};
 ghost use lib.ListN.{length};
 ghost use Rattle.host.specs.Images.{pairBytes, wordBytes, constraintBytes, filled, valueIn, rowIn, wordsIn};
-ghost use Rattle.search.specs.Constraints.{conAt};
 use model::Constraint;
 
 // Two bytes of a number.
@@ -61,20 +60,6 @@ fn put_constraint(c: Constraint, at: usize, out: &mut [u8])
     out[at + 9] = (c.toB % 256) as u8;
 }
 
-// A constraint that stands as four words.
-fn constraint_at(words: &[u32], i: usize) -> Constraint
-    requires { ⌜ 4 * i + 4 ≤ length (now words) ⌝ }
-    ensures { λ r. ⌜ r ≡ conAt (now (words .entry)) i ⌝ }
-{
-    let k = 4 * i;
-    Constraint {
-        fromA: words[k],
-        toA: words[k + 1],
-        fromB: words[k + 2],
-        toB: words[k + 3],
-    }
-}
-
 // The first n constraints of a list that was packed, four words each.
 fn put_constraints(words: &[u32], n: usize, out: &mut [u8])
     requires { ⌜ (4 * n ≤ length (now words)) × (130 + 10 * n ≤ length (now out)) ⌝ }
@@ -82,7 +67,7 @@ fn put_constraints(words: &[u32], n: usize, out: &mut [u8])
 {
     let mut i: usize = 0;
     while i < n {
-        let c = constraint_at(words, i);
+        let c = search::constraint_at(words, i);
         put_constraint(c, 130 + 10 * i, out);
         i += 1;
     }

@@ -1,57 +1,29 @@
-// The checker for callers in C, on numbers and bytes: each function takes a fresh case through the calls. A slice passes as a pointer and a length.
+// The checker for callers in C, on numbers and bytes. Check and Encode take a fresh case through the calls; Decide goes over the log's bytes as the call on
+// the case does, without one. A slice passes as a pointer and a length.
 // include/beaconcrumb.h says what each gives; the contracts say it as equations with the calls' own definitions.
 ghost use mathlib.Core.Path.{_≡_};
-ghost use lib.ListN.{length};
-ghost use Rattle.model.specs.Log.{loadNumber};
-ghost use Rattle.checker.specs.Cases.{freshCase, loadedCase};
-ghost use Rattle.checker.specs.Answers.{numberOf};
-ghost use Rattle.model.specs.Lent.{noConstraint};
+ghost use mathlib.Core.Bool.{true};
+ghost use lib.Dec.{T};
+ghost use lib.ListN.{length, take};
+ghost use Rattle.model.specs.History.{isOrder};
+ghost use Rattle.model.specs.Log.{loadNumber, transactionsIn};
+ghost use Rattle.checker.specs.Cases.{loadedCase};
+ghost use Rattle.answers.specs.Numbers.{numberOf};
 ghost use Rattle.checker.specs.Encodings.{encodeAnswer};
-ghost use Rattle.host.specs.Codes.{judgementCode, verdictCode, whereOrdered, checkCode, roomCode, orderOf, tableOf, decideCode, orderAfter, tableAfter, polygraphCode, polygraphAfter, encodeCode, encodeAfter};
+ghost use Rattle.host.specs.Codes.{judgementCode, checkCode, roomCode, orderOf, tableOf, orderedCase, foundDecision, saidCode, saidOrder, saidTable, decideCode, orderAfter, tableAfter, polygraphCode, polygraphAfter, encodeCode, encodeAfter};
+use answers::copies::copy_bytes;
+use answers::deciding::Outcome;
+use answers::deciding::decided;
 use checker::Answer;
 use checker::Case;
-use checker::Decision;
 use checker::Judgement;
-use checker::Reply;
-use checker::Stage;
-use checker::Verdict;
-use model::Constraint;
+use listing::PLACES;
+use listing::WORDS;
 
 mod images;
 
-// A fresh case.
-fn blank() -> Case
-    ensures { λ r. ⌜ r ≡ freshCase ⌝ }
-{
-    Case {
-        stage: Stage::Fresh,
-        bytes: [0; 1156],
-        length: 0,
-        order: [0; 32],
-    }
-}
-
-// Four zeros, which the list of constraints holds before the call.
-fn nothing() -> Constraint
-    ensures { λ r. ⌜ r ≡ noConstraint ⌝ }
-{
-    Constraint {
-        fromA: 0,
-        toA: 0,
-        fromB: 0,
-        toB: 0,
-    }
-}
-
-// The number of a reply, 0 for none.
-fn number(r: Reply) -> u32
-    ensures { λ n. ⌜ n ≡ numberOf r ⌝ }
-{
-    match r {
-        Reply::Taken => 0,
-        Reply::Refused(n) => n as u32,
-    }
-}
+// The words of 4,096 constraints, four each.
+const LIST_WORDS: usize = 16384;
 
 // 0 legal, 255 not legal, else the refusal's number.
 fn judged(j: Judgement) -> u32
@@ -69,7 +41,7 @@ fn loaded(log: &[u8]) -> Answer
     ensures number { λ r. ⌜ numberOf (r .reply) ≡ loadNumber (now (log .entry)) ⌝ }
     ensures taken { λ r. ⌜ (loadNumber (now (log .entry)) ≡ 0 → r .case ≡ loadedCase (now (log .entry))) ⌝ }
 {
-    let c = blank();
+    let c = Case::fresh();
     c.load(log)
 }
 
@@ -80,7 +52,7 @@ pub extern "C" fn beaconcrumb_check(log: &[u8], order: &[u8]) -> u32
 {
     let a = loaded(log);
     let reply = a.reply;
-    let refused = number(reply);
+    let refused = reply.number() as u32;
     if refused != 0 {
         return refused;
     }
@@ -90,40 +62,43 @@ pub extern "C" fn beaconcrumb_check(log: &[u8], order: &[u8]) -> u32
     judged(judgement)
 }
 
-// The order and the table of a case that is decided with an order, or 25 and nothing.
-fn write(c: Case, order: &mut [u8], table: &mut [u8]) -> u32
-    ensures result { λ r. ⌜ r ≡ roomCode c (length (now (order .entry))) (length (now (table .entry))) ⌝ }
-    ensures order { λ _. ⌜ now (order .exit) ≡ orderOf c (now (order .entry)) (length (now (table .entry))) ⌝ }
-    ensures table { λ _. ⌜ now (table .exit) ≡ tableOf c (length (now (order .entry))) (now (table .entry)) ⌝ }
+// The order and the table of a log whose order is found, or 25 and nothing.
+fn write(log: &[u8], numbers: [u8; 32], order: &mut [u8], table: &mut [u8]) -> u32
+    requires { ⌜ (loadNumber (now log) ≡ 0) × T (isOrder (transactionsIn (now log)) (take (transactionsIn (now log)) numbers)) ⌝ }
+    ensures result { λ r. ⌜ r ≡ roomCode (orderedCase (now (log .entry)) numbers) (length (now (order .entry))) (length (now (table .entry))) ⌝ }
+    ensures order { λ _. ⌜ now (order .exit) ≡ orderOf (orderedCase (now (log .entry)) numbers) (now (order .entry)) (length (now (table .entry))) ⌝ }
+    ensures table { λ _. ⌜ now (table .exit) ≡ tableOf (orderedCase (now (log .entry)) numbers) (length (now (order .entry))) (now (table .entry)) ⌝ }
 {
     if table.len() < 64 {
         return 25;
     }
-    let o = c.order(order);
-    let reply = o.reply;
-    let refused = number(reply);
-    if refused != 0 {
-        return refused;
+    let n = log::transactions(log);
+    if order.len() < n {
+        return 25;
     }
-    let mut values = [0u16; 32];
-    let t = c.table(&mut values);
+    copy_bytes(&numbers, n, order);
+    let values = replay::tables::table(log, &numbers[..n]);
     images::put_values(&values, table);
     0
 }
 
-// 255 for 'no order', the refusal's number, or what there is to write.
-fn answered(d: Decision, order: &mut [u8], table: &mut [u8]) -> u32
-    ensures result { λ r. ⌜ r ≡ verdictCode (d .verdict) (roomCode (d .case) (length (now (order .entry))) (length (now (table .entry)))) ⌝ }
-    ensures order { λ _. ⌜ now (order .exit) ≡ whereOrdered (d .verdict) (orderOf (d .case) (now (order .entry)) (length (now (table .entry)))) (now (order .entry)) ⌝ }
-    ensures table { λ _. ⌜ now (table .exit) ≡ whereOrdered (d .verdict) (tableOf (d .case) (length (now (order .entry))) (now (table .entry))) (now (table .entry)) ⌝ }
+// The refusal's number, 255 for 'no order', or what there is to write.
+fn answered(log: &[u8], o: Outcome, order: &mut [u8], table: &mut [u8]) -> u32
+    requires { ⌜ (loadNumber (now log) ≡ 0) × (o .number ≡ 0 → o .found ≡ true → T (isOrder (transactionsIn (now log)) (take (transactionsIn (now log)) (o .order)))) ⌝ }
+    ensures result { λ r. ⌜ r ≡ saidCode (foundDecision (now (log .entry)) o) (length (now (order .entry))) (length (now (table .entry))) ⌝ }
+    ensures order { λ _. ⌜ now (order .exit) ≡ saidOrder (foundDecision (now (log .entry)) o) (now (order .entry)) (length (now (table .entry))) ⌝ }
+    ensures table { λ _. ⌜ now (table .exit) ≡ saidTable (foundDecision (now (log .entry)) o) (length (now (order .entry))) (now (table .entry)) ⌝ }
 {
-    let c = d.case;
-    let verdict = d.verdict;
-    match verdict {
-        Verdict::Order => write(c, order, table),
-        Verdict::Without => 255,
-        Verdict::Refused(n) => n as u32,
+    let number = o.number as u32;
+    if number != 0 {
+        return number;
     }
+    let found = o.found;
+    if !found {
+        return 255;
+    }
+    let numbers = o.order;
+    write(log, numbers, order, table)
 }
 
 // The order and the table of a log, in two lists of bytes: 0; 255 for 'no order'; else the refusal's number.
@@ -139,16 +114,14 @@ pub extern "C" fn beaconcrumb_decide(
     ensures order { λ _. ⌜ now (order .exit) ≡ orderAfter (now (log .entry)) encoding pruning (now (order .entry)) (length (now (table .entry))) ⌝ }
     ensures table { λ _. ⌜ now (table .exit) ≡ tableAfter (now (log .entry)) encoding pruning (length (now (order .entry))) (now (table .entry)) ⌝ }
 {
-    let a = loaded(log);
-    let reply = a.reply;
-    let refused = number(reply);
+    let refused = log::number(log) as u32;
     if refused != 0 {
         return refused;
     }
-    let c = a.case;
-    let none = nothing();
-    let d = lender::decide(c, encoding, pruning, 4096, none);
-    answered(d, order, table)
+    let mut tables = [0u32; WORDS];
+    let mut chosen = [0u16; PLACES];
+    let o = decided(log, encoding, pruning, 4096, &mut tables, &mut chosen);
+    answered(log, o, order, table)
 }
 
 // The polygraph of a case, in a list of bytes, or the number with which it is refused and nothing.
@@ -156,21 +129,11 @@ fn encoded(c: Case, encoding: u8, pruning: u8, out: &mut [u8]) -> u32
     ensures result { λ r. ⌜ r ≡ polygraphCode (encodeAnswer c encoding pruning 4096 32) (length (now (out .entry))) ⌝ }
     ensures list { λ _. ⌜ now (out .exit) ≡ polygraphAfter c encoding pruning (now (out .entry)) ⌝ }
 {
-    let none = nothing();
     let mut rows = [0u32; 32];
-    let mut words = [0u32; 16384];
-    let e = lender::encode(
-        c,
-        encoding,
-        pruning,
-        4096,
-        none,
-        false,
-        &mut rows,
-        &mut words,
-    );
+    let mut words = [0u32; LIST_WORDS];
+    let e = lender::encode(c, encoding, pruning, &mut rows, &mut words);
     let reply = e.reply;
-    let refused = number(reply);
+    let refused = reply.number() as u32;
     if refused != 0 {
         return refused;
     }
@@ -190,7 +153,7 @@ pub extern "C" fn beaconcrumb_encode(log: &[u8], encoding: u8, pruning: u8, out:
 {
     let a = loaded(log);
     let reply = a.reply;
-    let refused = number(reply);
+    let refused = reply.number() as u32;
     if refused != 0 {
         return refused;
     }

@@ -1,80 +1,130 @@
--- What the decision of a log gives, as Judge's text needs it. Assumes nothing.
-use Prim.Native.Nat.{ℕ, _-_, _≤_}
+-- What the calls give of a log that Load takes, as Judge's text needs it.
+--     refusal-is       Decide refuses with the number that is left to Judge, 14 or none
+--     said             what each verdict says of Judge's text
+--     text-is          what is printed from what Order and Table write of a case that is decided with the first legal order
+-- Assumes nothing.
+use Prim.Native.Nat.{ℕ, _≤_}
 use native.Mathlib.Omega.{arith}
-use mathlib.Core.Path.{_≡_, refl, sym, ap, subst, _∙_}
-use mathlib.Core.Bool.{true, false}
-use mathlib.Core.List.{List}
+use mathlib.Core.Path.{_≡_, refl, sym, ap, ap₂, subst, _∙_}
+use mathlib.Core.Bool.{Bool, true, false, cond}
+use mathlib.Core.List.{List, _++_, append-nil}
 use mathlib.Core.Option.{Option, none, some}
-use lib.Dec.{T}
-use lib.ListN.{length, take, replicate, length-append, length-replicate}
+use lib.Dec.{T, eqb, ltb}
+use lib.ListN.{length, take, drop, replicate}
 use lib.Seq.{take-at}
-use Rattle.model.specs.History.{History, size, isOrder, finalTable}
+use Rattle.model.specs.History.{History, size, legal, finalTable}
 use Rattle.model.specs.Log.{transactionsIn, loadNumber, historyOf}
-use Rattle.model.specs.Lent.{orderNumbers}
+use Rattle.model.specs.Polygraph.{constraints}
 use Rattle.model.specs.Search.{firstLegal}
+use Rattle.model.specs.Lent.{encodedCount}
 use Rattle.model.proofs.Loaded.{history-size, loadable-log}
-use Rattle.model.proofs.First.{first-some, legal-length, legal-order}
+use Rattle.model.proofs.First.{first-some, legal-length}
 use Rattle.polygraph.specs.Tables.{writersOf}
-use Rattle.search.specs.declared.order.Found.{Found}
-use Rattle.decision.specs.Answer.{firstAnswer}
-use Rattle.decision.specs.Answer as decision
-use Rattle.report.specs.Text.{marked}
-use Rattle.report.specs.Judge.{isSome, DecidedBy}
-use Rattle.report.proofs.Answers.{marked-written}
+use Rattle.checker.specs.declared.Case.{Case}
+use Rattle.checker.specs.declared.Decision.{Decision}
+use Rattle.answers.specs.declared.Verdict.{Verdict}
+use Rattle.answers.specs.declared.Verdict.the-variants.{Order, NoOrder, Refused}
+use Rattle.checker.specs.Cases.{historyIn, stageOf, loadedCase}
+use Rattle.answers.specs.Stages.{isFresh}
+use Rattle.checker.specs.Encodings.{encodeRefusal}
+use Rattle.answers.specs.Settings.{settingRefusal, placesRefusal}
+use Rattle.checker.specs.Decisions.{decideRefusal, decidedCase, decided, refusedDecision, deciding}
+use Rattle.checker.specs.Results.{orderLeft, tableLeft}
+use Rattle.checker.proofs.Chain.{load-holds, load-stage, order-writes, table-writes}
+use Rattle.report.specs.Text.{refusedText, noOrderText, foundText, marked}
+use Rattle.report.specs.Judge.{decidedText, judgeNumber, judgeText}
+use Rattle.report.proofs.Answers.{found-is, marked-written}
+use Rattle.report.proofs.Long.{number-many}
+use Rattle.judging.specs.Outcome.{OrderedBy}
 
-pub no : true ≡ false → ⊥
-no e = subst T e tt
-
-same-some : (x : Option (List ℕ)) → decision.isSome x ≡ isSome x
-unfolding decision.isSome
-same-some none = refl
-same-some (some o) = refl
-
-module _ (b : List ℕ) (ok : loadNumber b ≡ 0) (f : Found) (is : f ≡ firstAnswer (historyOf b)) where
+module _ (b : List ℕ) (ok : loadNumber b ≡ 0) where
   abbrev h : History
   h = historyOf b
 
-  order-is : f .order ≡ orderNumbers (firstLegal h)
-  unfolding firstAnswer
-  order-is = ap (λ (x : Found). x .order) is
+  abbrev held : Case
+  held = loadedCase b
 
-  found-is : f .found ≡ isSome (firstLegal h)
-  unfolding firstAnswer
-  found-is = ap (λ (x : Found). x .found) is ∙ same-some (firstLegal h)
+  history-is : historyIn held ≡ h
+  history-is = ap historyOf (load-holds b)
 
-  long : (x : Option (List ℕ)) → firstLegal h ≡ x → length (orderNumbers x) ≡ 32
-  unfolding orderNumbers
-  long none e = length-replicate {A = ℕ} 32 0
-  long (some o) e =
-      let few = loadable-log b ok .few in
-      let n = legal-length h o (first-some h o e .0) in
-      omega (arith, length-append o (replicate (32 - length o) 0), length-replicate {A = ℕ} (32 - length o) 0)
+  not-fresh : isFresh (stageOf held) ≡ false
+  not-fresh = ap isFresh (load-stage b ok)
 
-  pub order-long : length (f .order) ≡ 32
-  order-long = ap length order-is ∙ long (firstLegal h) refl
+  refusal-is : decideRefusal held 2 1 4096 ≡ judgeNumber b
+  unfolding encodeRefusal settingRefusal placesRefusal
+  refusal-is =
+      ap₂ {C = ℕ} (λ (f : Bool) (n : ℕ). cond f 22 (cond (ltb 4096 n) 14 (cond (ltb 4096 n) 25 0))) not-fresh (ap (λ (x : History). length (constraints x 2)) history-is)
+      ∙ one (ltb 4096 (length (constraints h 2)))
+      ∙ number-many b (ltb 4096 (length (constraints h 2))) ok refl
+    where
+      one : (m : Bool) → _≡_ {A = ℕ} (cond m 14 (cond m 25 0)) (cond m 14 0)
+      one true = refl
+      one false = refl
 
-  ordered : (x : Option (List ℕ)) → firstLegal h ≡ x → isSome x ≡ true → T (isOrder (size h) (take (size h) (orderNumbers x)))
-  unfolding orderNumbers
-  ordered none e t = absurd (no (sym t))
-  ordered (some o) e t =
-      let l = first-some h o e .0 in
-      subst (λ p. T (isOrder (size h) p)) (sym (take-at o (replicate (32 - length o) 0) (size h) (legal-length h o l))) (legal-order h o l)
+  -- what each verdict says
+  abbrev pub Said : Verdict → Case → Type 0
+  Said Order c = OrderedBy b c × (judgeText b ≡ decidedText h (firstLegal h))
+  Said NoOrder c = judgeText b ≡ noOrderText
+  Said (Refused n) c = judgeText b ≡ refusedText n
 
-  pub found-order : (n : ℕ) → n ≡ transactionsIn b → f .found ≡ true → T (isOrder (transactionsIn b) (take n (f .order)))
-  found-order n e t =
-      let a = ordered (firstLegal h) refl (sym found-is ∙ t) in
-      let s : size h ≡ n = history-size b ∙ sym e in
-      subst (λ m. T (isOrder m (take n (f .order)))) e
-      (subst (λ m. T (isOrder m (take m (f .order)))) s (subst (λ p. T (isOrder (size h) (take (size h) p))) (sym order-is) a))
+  -- where Decide answers, and where it refuses
+  answered : (x : Option (List ℕ)) (k : ℕ) → firstLegal h ≡ x → judgeText b ≡ decidedText h (firstLegal h) → let d = decided held x k in Said (d .verdict) (d .case)
+  unfolding decided decidedText
+  answered none k e text = text ∙ ap (decidedText h) e
+  answered (some o) k e text = (record { loads = ok; order = o; first = e; case-is = refl }, text)
 
-  pub outcome : (n : ℕ) (writers table : List ℕ) → n ≡ transactionsIn b → n ≤ 32 → writers ≡ writersOf h
-      → (f .found ≡ true → table ≡ finalTable h (take n (f .order))) → DecidedBy b (f .found) n (f .order) writers table
+  by-number : (t : Bool) (k : ℕ) → eqb (judgeNumber b) 0 ≡ t → let d = cond t (decided held (firstLegal h) k) (refusedDecision held (judgeNumber b)) in Said (d .verdict) (d .case)
+  unfolding judgeText refusedDecision
+  by-number true k e = answered (firstLegal h) k refl (ap (λ x. cond x (decidedText h (firstLegal h)) (refusedText (judgeNumber b))) e)
+  by-number false k e = ap (λ x. cond x (decidedText h (firstLegal h)) (refusedText (judgeNumber b))) e
+
+  pub said : (d : Decision) → d ≡ deciding held 2 1 4096 → (v : Verdict) → d .verdict ≡ v → Said v (d .case)
+  unfolding deciding
+  said d e v is =
+      subst (λ (x : Verdict). Said x (d .case)) is
+      (subst (λ (x : Decision). Said (x .verdict) (x .case))
+      (sym (e ∙ ap₂ (λ (n : ℕ) (x : History). cond (eqb n 0) (decided held (firstLegal x) (encodedCount x 2 1)) (refusedDecision held n)) refusal-is history-is))
+      (by-number (eqb (judgeNumber b) 0) (encodedCount h 2 1) refl))
+
+-- ---- a case that is decided with the first legal order
+
+module _ (b : List ℕ) (c : Case) (by : OrderedBy b c) where
+  abbrev o : List ℕ
+  o = by .order
+
+  same : historyIn (loadedCase b) ≡ historyOf b
+  same = history-is b (by .loads)
+
+  legal-here : T (legal (historyOf b) o)
+  legal-here = first-some (historyOf b) o (by .first) .0
+
+  legal-held : T (legal (historyIn (loadedCase b)) o)
+  legal-held = subst (λ (x : History). T (legal x o)) (sym same) legal-here
+
+  long : length o ≡ transactionsIn b
+  long = legal-length (historyOf b) o legal-here ∙ history-size b
+
+  few : size (historyOf b) ≤ 32
+  few = loadable-log b (by .loads) .few
+
+  order-is : (n : ℕ) → n ≡ transactionsIn b → take n (orderLeft c (replicate 32 0)) ≡ o
+  order-is n e =
+      ap (λ (x : Case). take n (orderLeft x (replicate 32 0))) (by .case-is)
+      ∙ ap (take n) (order-writes (loadedCase b) o (not-fresh b (by .loads)) legal-held (replicate 32 0) (omega (arith, long, few, history-size b)))
+      ∙ take-at o (drop (length o) (replicate 32 0)) n (long ∙ sym e)
+
+  table-is : tableLeft c (replicate 32 0) ≡ finalTable (historyOf b) o
+  table-is =
+      ap (λ (x : Case). tableLeft x (replicate 32 0)) (by .case-is)
+      ∙ table-writes (loadedCase b) o (not-fresh b (by .loads)) legal-held (replicate 32 0) (omega arith)
+      ∙ append-nil (finalTable (historyIn (loadedCase b)) o)
+      ∙ ap (λ (x : History). finalTable x o) same
+
+  -- what is printed from them is what Judge prints
+  pub text-is : (n : ℕ) (order writers table : List ℕ) → n ≡ transactionsIn b → order ≡ orderLeft c (replicate 32 0) → writers ≡ writersOf (historyOf b) → table ≡ tableLeft c (replicate 32 0)
+      → foundText (take n order) (marked writers) table ≡ decidedText (historyOf b) (firstLegal (historyOf b))
   unfolding writersOf
-  outcome n writers table e few w left = record {
-    few = few;
-    count = e ∙ sym (history-size b);
-    is = found-is;
-    numbers = order-is;
-    left = left;
-    keys = λ k l. ap (λ (x : List ℕ). marked x k) w ∙ marked-written h (loadable-log b ok .few) k l;
-  }
+  text-is n order writers table e p w t =
+      ap₂ (λ (x y : List ℕ). foundText x (marked writers) y) (ap (take n) p ∙ order-is n e) (t ∙ table-is)
+      ∙ found-is (historyOf b) o (marked writers) (λ k l. ap (λ (x : List ℕ). marked x k) w ∙ marked-written (historyOf b) few k l)
+      ∙ ap (decidedText (historyOf b)) (sym (by .first))

@@ -1,18 +1,13 @@
 -- What a call of each callee gives to a walk that calls it.
---     put-left         `put`, which the words are lent to
+--     put-left         `search::put_constraint`, which the words are lent to
 --     decide-left      Decide, which a list is lent to
---     shown-says       `shown`, by value
 --     encode-left, pack-left       Encode and `pack`, which two lists are lent to
 -- Assumes `Given`, and that the callee meets its contract.
-use Rattle.walk.specs.Prelude.{_≡_, refl, _∙_, ℕ, _+_, _*_, _<_, _≤_, _^_, List, [], _∷_, URA, fullShare, named, w8, w64, Val, vint, SProp, ent, sep, guard, emp, exE, snd∗, GName, flft, Memory, Routine, Heap, Calls, Atoms, sem, Fun, fact, Given, ‵, raw, some, _⊛_, _$_, _∵_, !, qed, move, keep, drop, split, join, pick, show, check, fsplit, fjoin, feqL, frame, done, FmC, u32, unit, MutSlice, finally, heard, nothing, says, tripleOf, Contract, Triple, ensured, lasts}
-use Rattle.walk.specs.ByValue.{Says, Result, plainly, result-says}
-use Rattle.walk.specs.Kind.{Kind, of-field, u8K, usizeK, vals, Good, have}
-use Rattle.walk.specs.Lending.{Answer, Left, through, result-left}
-use Rattle.walk.specs.Parts.{AnswerTwo, LeftTwo, result-two}
-use Rattle.walk.specs.Slices.{lent, counted}
-use denote.Struct.Field.{bool-field}
-use denote.Struct.Laws as LL
-use mathlib.Core.Bool.{Bool}
+use Rattle.walk.proofs.Prelude.{_≡_, refl, _∙_, ℕ, _+_, _*_, _<_, _≤_, _^_, List, [], _∷_, URA, fullShare, named, w8, w64, Val, vint, SProp, ent, sep, guard, GName, flft, Memory, Routine, Heap, Calls, Atoms, sem, Fun, fact, Given, ‵, raw, some, _⊛_, _$_, _∵_, !, qed, move, keep, drop, split, join, pick, show, check, fsplit, fjoin, feqL, frame, done, FmC, u32, unit, MutSlice, finally, heard, nothing, says, tripleOf, Contract, Triple, ensured, lasts}
+use Rattle.walk.proofs.Kind.{u8K, usizeK, vals, Good, have}
+use Rattle.walk.proofs.Lending.{Answer, Left, through, result-left}
+use Rattle.walk.proofs.Parts.{AnswerTwo, LeftTwo, result-two}
+use Rattle.walk.proofs.Slices.{lent, counted}
 use lib.ListN.{length}
 use Rattle.model.specs.declared.Constraint.{Constraint}
 use Rattle.graph.proofs.Constraints.{conK, R}
@@ -27,17 +22,12 @@ use Rattle.checker.proofs.Case.decide as decide
 use Rattle.checker.proofs.Case.decide.Symbol.{name as #checker·Case·decide}
 use Rattle.checker.proofs.Case.encode as encode
 use Rattle.checker.proofs.Case.encode.Symbol.{name as #checker·Case·encode}
-use Rattle.decision.specs.Words.{withWords}
-use Rattle.lender.specs.Packing.{packed, shownOf}
-use Rattle.lender.proofs.put as put
-use Rattle.lender.proofs.put.Symbol.{name as #lender·put}
+use Rattle.search.specs.Constraints.{withWords}
+use Rattle.search.proofs.put_constraint as put
+use Rattle.search.proofs.put_constraint.Symbol.{name as #search·put-constraint}
+use Rattle.lender.specs.Packing.{packed}
 use Rattle.lender.proofs.pack as pack
 use Rattle.lender.proofs.pack.Symbol.{name as #lender·pack}
-use Rattle.lender.proofs.shown as shown
-use Rattle.lender.proofs.shown.Symbol.{name as #lender·shown}
-
-abbrev pub boolK : Kind
-boolK = of-field bool-field LL.bool-laws LL.bool-plain LL.bool-copy
 
 -- what `pack` says of the last lists
 abbrev pub Packs : ℕ → List Constraint → List ℕ → List Constraint → List ℕ → Type 0
@@ -46,9 +36,6 @@ Packs n ys ws zs vs = (zs ≡ ys) × (vs ≡ packed n ys ws)
 module _ {M : Type 1} (𝓤 : URA M) (H : Heap 𝓤) (A : Atoms 𝓤) (mem : Memory → SProp 𝓤) (run : Routine → Fun 𝓤) where
   abbrev pub PutC : Contract 𝓤
   PutC = tripleOf 𝓤 H A put.signature (put.spec 𝓤 H A mem run)
-
-  abbrev pub ShownC : Contract 𝓤
-  ShownC = tripleOf 𝓤 H A shown.signature (shown.spec 𝓤 H A mem run)
 
   abbrev pub PackC : Contract 𝓤
   PackC = tripleOf 𝓤 H A pack.signature (pack.spec 𝓤 H A mem run)
@@ -60,16 +47,16 @@ module _ {M : Type 1} (𝓤 : URA M) (H : Heap 𝓤) (A : Atoms 𝓤) (mem : Mem
   DecideC = tripleOf 𝓤 H A decide.signature (decide.spec 𝓤 H A mem run)
 
   module _ (W : Given 𝓤 H A) (C : Calls 𝓤 H) (fm : FmC 𝓤 H (W .laws) C) where
-    pub put-left : Triple 𝓤 (C #lender·put) PutC → (b o m : ℕ) (ws : List ℕ) → length ws ≡ m → (c : Constraint) (i : ℕ) → Good conK c → i < 2 ^ 64 → 4 * i + 4 ≤ length ws
+    pub put-left : Triple 𝓤 (C #search·put-constraint) PutC → (b o m : ℕ) (ws : List ℕ) → length ws ≡ m → (i : ℕ) (c : Constraint) → i < 2 ^ 64 → Good conK c → 4 * i + 4 ≤ length ws
         → (ν : ℕ) (δ : GName) → ent 𝓤 (sep 𝓤 (A .lft (ν ∷ []) fullShare) (sem 𝓤 H A (MutSlice (named 0) (ν ∷ []) u32 .own (lent b o δ ws) (counted b o m ∷ []))))
-        (C #lender·put (conK .val c ∷ vint w64 i ∷ counted b o m ∷ []) (Left 𝓤 H A u32 m (Answer unit (λ _ vs. vs ≡ withWords ws i c)) ν δ))
-    put-left known b o m ws e-ws c i c-ok i-fits within ν δ =
-        through 𝓤 H A (C #lender·put) (fm #lender·put) PutC known (((ν ∷ [], tt), (fullShare, tt), tt, (c, (i, (lent b o δ ws, tt))), (vals conK c, (vint w64 i ∷ [], (counted b o m ∷ [], tt)))), tt)
+        (C #search·put-constraint (counted b o m ∷ vint w64 i ∷ conK .val c ∷ []) (Left 𝓤 H A u32 m (Answer unit (λ _ vs. vs ≡ withWords ws i c)) ν δ))
+    put-left known b o m ws e-ws i c i-fits c-ok within ν δ =
+        through 𝓤 H A (C #search·put-constraint) (fm #search·put-constraint) PutC known (((ν ∷ [], tt), (fullShare, tt), tt, (lent b o δ ws, (i, (c, tt))), (counted b o m ∷ [], (vint w64 i ∷ [], (vals conK c, tt)))), tt)
         (qed W (‵ (flft (ν ∷ []) fullShare) ∷ ‵ (MutSlice (named 0) (ν ∷ []) u32 .own (lent b o δ ws) (counted b o m ∷ [])) ∷ []) ∵ says ! within $ nothing ! $ move ! (1 ∷ 0 ∷ []) $ join ! $ frame ! $
-        nothing ! $ move ! (1 ∷ 0 ∷ []) $ fjoin ! $ have ! usizeK i _ (refl, i-fits) $ fjoin ! $ have ! conK c _ c-ok $ fjoin ! $ done !)
-        (Left 𝓤 H A u32 m (Answer unit (λ _ vs. vs ≡ withWords ws i c)) ν δ) (result-left 𝓤 H A W u32 unit m ν δ (ensured 𝓤 H A put.ended (put.clauses 𝓤 H A mem run) (ν ∷ [], tt) (c, (i, (lent b o δ ws, tt))) tt) (λ _ vs. vs ≡ withWords ws i c)
-        (λ _. qed W (some (λ (us : Unit {0} × (Unit {0} × (List ℕ × Unit {0}))). ‵ (lasts put.ended (ν ∷ [], tt) (c, (i, (lent b o δ ws, tt))) us) ⊛ raw (fact 𝓤 (us .1 .1 .0 ≡ withWords ws i c))) ∷ []) ∵ pick ! (λ us. split ! $ move ! (1 ∷ []) $ heard ! (us .1 .1 .0 ≡ withWords ws i c) (λ e.
-        fsplit ! $ drop ! $ fsplit ! $ drop ! $ fsplit ! $ fsplit ! $ move ! (1 ∷ []) $ feqL ! (λ len. show ! (λ (vs : List ℕ). guard 𝓤 ((vs ≡ withWords ws i c) × (length vs ≡ m)) (sem 𝓤 H A (finally u32 δ vs))) (us .1 .1 .0) $ check ! (e, len ∙ e-ws) $ keep ! (0 ∷ []) $ done !)))))
+        nothing ! $ have ! conK c _ c-ok $ fjoin ! $ have ! usizeK i _ (refl, i-fits) $ fjoin ! $ move ! (1 ∷ 0 ∷ []) $ fjoin ! $ done !)
+        (Left 𝓤 H A u32 m (Answer unit (λ _ vs. vs ≡ withWords ws i c)) ν δ) (result-left 𝓤 H A W u32 unit m ν δ (ensured 𝓤 H A put.ended (put.clauses 𝓤 H A mem run) (ν ∷ [], tt) (lent b o δ ws, (i, (c, tt))) tt) (λ _ vs. vs ≡ withWords ws i c)
+        (λ _. qed W (some (λ (us : List ℕ × (Unit {0} × (Unit {0} × Unit {0}))). ‵ (lasts put.ended (ν ∷ [], tt) (lent b o δ ws, (i, (c, tt))) us) ⊛ raw (fact 𝓤 (us .0 ≡ withWords ws i c))) ∷ []) ∵ pick ! (λ us. split ! $ move ! (1 ∷ []) $ heard ! (us .0 ≡ withWords ws i c) (λ e.
+        fsplit ! $ fsplit ! $ move ! (1 ∷ []) $ feqL ! (λ len. show ! (λ (vs : List ℕ). guard 𝓤 ((vs ≡ withWords ws i c) × (length vs ≡ m)) (sem 𝓤 H A (finally u32 δ vs))) (us .0) $ check ! (e, len ∙ e-ws) $ keep ! (0 ∷ []) $ done !)))))
 
     pub decide-left : Triple 𝓤 (C #checker·Case·decide) DecideC → (b o m : ℕ) (ys : List Constraint) → length ys ≡ m → (c : Case) (e pruning : ℕ) → Good caseK c → e < 2 ^ 8 → pruning < 2 ^ 8
         → (ν : ℕ) (δ : GName) → ent 𝓤 (sep 𝓤 (A .lft (ν ∷ []) fullShare) (sem 𝓤 H A (MutSlice (named 0) (ν ∷ []) R .own (lent b o δ ys) (counted b o m ∷ []))))
@@ -81,14 +68,6 @@ module _ {M : Type 1} (𝓤 : URA M) (H : Heap 𝓤) (A : Atoms 𝓤) (mem : Mem
         (Left 𝓤 H A R m (Answer (decisionK .row) (Decides c e pruning ys)) ν δ) (result-left 𝓤 H A W R (decisionK .row) m ν δ (ensured 𝓤 H A decide.ended (decide.clauses 𝓤 H A mem run) (ν ∷ [], tt) (c, (e, (pruning, (lent b o δ ys, tt)))) tt) (Decides c e pruning ys)
         (λ r. qed W (some (λ (us : Unit {0} × (Unit {0} × (Unit {0} × (List Constraint × Unit {0})))). ‵ (lasts decide.ended (ν ∷ [], tt) (c, (e, (pruning, (lent b o δ ys, tt)))) us) ⊛ raw (fact 𝓤 (Decides c e pruning ys r (us .1 .1 .1 .0)))) ∷ []) ∵ pick ! (λ us. split ! $ move ! (1 ∷ []) $ heard ! (Decides c e pruning ys r (us .1 .1 .1 .0)) (λ d.
         fsplit ! $ drop ! $ fsplit ! $ drop ! $ fsplit ! $ drop ! $ fsplit ! $ fsplit ! $ move ! (1 ∷ []) $ feqL ! (λ len. show ! (λ (zs : List Constraint). guard 𝓤 (Decides c e pruning ys r zs × (length zs ≡ m)) (sem 𝓤 H A (finally R δ zs))) (us .1 .1 .1 .0) $ check ! (d, len ∙ e-ys) $ keep ! (0 ∷ []) $ done !)))))
-
-    pub shown-says : Triple 𝓤 (C #lender·shown) ShownC → (w : Bool) (n left : ℕ) → Good boolK w → n < 2 ^ 64 → left < 2 ^ 64
-        → ent 𝓤 (emp 𝓤) (C #lender·shown (boolK .val w ∷ usizeK .val n ∷ usizeK .val left ∷ []) (Says 𝓤 H (Result (usizeK .row) (λ r. r ≡ shownOf w n left))))
-    shown-says known w n left w-ok n-fits l-fits =
-        plainly 𝓤 H (C #lender·shown) (fm #lender·shown) ShownC known ((tt, tt, tt, (w, (n, (left, tt))), (vals boolK w, (vals usizeK n, (vals usizeK left, tt)))), tt)
-        (qed W [] ∵ nothing ! $ have ! usizeK left _ (refl, l-fits) $ fjoin ! $ have ! usizeK n _ (refl, n-fits) $ fjoin ! $ have ! boolK w _ w-ok $ fjoin ! $ nothing ! $ join ! $ frame ! $ done !)
-        (Result (usizeK .row) (λ r. r ≡ shownOf w n left)) (result-says 𝓤 H A W (usizeK .row) (ensured 𝓤 H A shown.ended (shown.clauses 𝓤 H A mem run) tt (w, (n, (left, tt))) tt) (λ r. r ≡ shownOf w n left)
-        (λ x. exE 𝓤 _ (λ ws. snd∗ 𝓤 (sem 𝓤 H A (lasts shown.ended tt (w, (n, (left, tt))) ws)) (fact 𝓤 (x ≡ shownOf w n left)))))
 
     module _ (b o m : ℕ) (ys : List Constraint) (e-ys : length ys ≡ m) (b₁ o₁ m₁ : ℕ) (ws : List ℕ) (e-ws : length ws ≡ m₁) where
       -- the two lists, lent for ν and ν₁ under the names δ and δ₁

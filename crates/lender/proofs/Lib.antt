@@ -1,4 +1,5 @@
 pub mod Callees
+pub mod Fresh
 pub mod Packs
 pub mod Places
 pub mod Within

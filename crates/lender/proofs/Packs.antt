@@ -14,9 +14,8 @@ use lib.ListN.{length, getD}
 use Rattle.model.specs.declared.Constraint.{Constraint}
 use Rattle.model.specs.Lent.{noConstraint}
 use Rattle.model.proofs.Basics.{same?}
-use Rattle.search.specs.Constraints.{conAt}
-use Rattle.decision.specs.Words.{withWords}
-use Rattle.decision.proofs.Putting.{put-long, put-new, put-same}
+use Rattle.search.specs.Constraints.{conAt, withWords}
+use Rattle.search.proofs.Puts.{put-long, put-new, put-same}
 use Rattle.lender.specs.Packing.{packed}
 
 pub packed-long : (n : ℕ) (ys : List Constraint) (out : List ℕ) → length (packed n ys out) ≡ length out

@@ -12,9 +12,10 @@ use Rattle.model.specs.Lent.{encodedCount}
 use Rattle.model.proofs.Basics.{eqb-ne}
 use Rattle.model.proofs.Pruning.{polygraph-length}
 use Rattle.checker.specs.declared.Case.{Case}
-use Rattle.checker.specs.Cases.{historyIn, stageOf, isFresh}
-use Rattle.checker.specs.Encodings.{settingRefusal, placesRefusal, encodeRefusal, encodeAnswer}
-use Rattle.lender.specs.Packing.{shownOf}
+use Rattle.checker.specs.Cases.{historyIn, stageOf}
+use Rattle.answers.specs.Stages.{isFresh}
+use Rattle.checker.specs.Encodings.{encodeRefusal, encodeAnswer}
+use Rattle.answers.specs.Settings.{settingRefusal, placesRefusal}
 
 -- where nothing is refused, the constraints before pruning fit the places
 pub counted-within : (c : Case) (e pruning places words : ℕ) → encodeRefusal c e pruning places words ≡ 0 → length (constraints (historyIn c) e) ≤ places
@@ -40,8 +41,3 @@ left-within c e pruning places words = go (eqb (encodeRefusal c e pruning places
     go : (b : Bool) → (T b → encodeRefusal c e pruning places words ≡ 0) → cond b (length (polygraph (historyIn c) e pruning .choices)) 0 ≤ places
     go true p = le-trans (polygraph-length (historyIn c) e pruning) (counted-within c e pruning places words (p tt))
     go false p = zero-le
-
-pub shown-within : (whole : Bool) (places left : ℕ) → left ≤ places → shownOf whole places left ≤ places
-unfolding shownOf
-shown-within true places left h = omega arith
-shown-within false places left h = h

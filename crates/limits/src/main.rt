@@ -1,11 +1,11 @@
 // The numbers of Load, Check and the state, each provoked at its first and last possible place, and what stands at the limits taken.
 // In the full log the entries begin at byte 4, the last at 128; the bodies begin at byte 132, the last at 1152.
+use checker::Case;
 use samples::after_check;
 use samples::ascending;
 use samples::changed_number;
 use samples::check_first;
 use samples::check_number;
-use samples::fresh;
 use samples::full;
 use samples::lines::end;
 use samples::lines::line1;
@@ -24,29 +24,32 @@ fn header() {
     let log = full();
     line1(
         b"T 32, N 256, cabinet 15, key 31: load",
-        load_first(fresh(), log, 1156),
+        load_first(Case::fresh(), log, 1156),
     );
     line2(
         b"0 and 3 bytes:",
-        load_number(fresh(), b""),
-        load_number(fresh(), b"\x00\x00\x00"),
+        load_number(Case::fresh(), b""),
+        load_number(Case::fresh(), b"\x00\x00\x00"),
     );
     line2(
         b"T 33, T 65535:",
-        load_number(fresh(), b"\x21\x00\x00\x00"),
-        load_number(fresh(), b"\xff\xff\x00\x00"),
+        load_number(Case::fresh(), b"\x21\x00\x00\x00"),
+        load_number(Case::fresh(), b"\xff\xff\x00\x00"),
     );
     line2(
         b"N 257, N 65535:",
-        load_number(fresh(), b"\x00\x00\x01\x01"),
-        load_number(fresh(), b"\x00\x00\xff\xff"),
+        load_number(Case::fresh(), b"\x00\x00\x01\x01"),
+        load_number(Case::fresh(), b"\x00\x00\xff\xff"),
     );
     line2(
         b"a byte too few, one too many:",
-        load_first(fresh(), log, 1155),
-        load_number(fresh(), b"\x00\x00\x00\x00\x00"),
+        load_first(Case::fresh(), log, 1155),
+        load_number(Case::fresh(), b"\x00\x00\x00\x00\x00"),
     );
-    line1(b"T 0, N 0: load", load_number(fresh(), b"\x00\x00\x00\x00"));
+    line1(
+        b"T 0, N 0: load",
+        load_number(Case::fresh(), b"\x00\x00\x00\x00"),
+    );
 }
 
 // 4, 5 and 6: the entries, at the first and the last.
@@ -175,7 +178,7 @@ fn several() {
     );
     line2(
         b"T 33 and a byte too many; N 257 and cabinet 16:",
-        load_number(fresh(), b"\x21\x00\x00\x00\x00"),
+        load_number(Case::fresh(), b"\x21\x00\x00\x00\x00"),
         changed_number(2, 1, 4, 16),
     );
 }
@@ -191,20 +194,20 @@ fn state() {
     );
     line2(
         b"check on a fresh case, no numbers; one:",
-        check_number(fresh(), b""),
-        check_number(fresh(), b"\x00"),
+        check_number(Case::fresh(), b""),
+        check_number(Case::fresh(), b"\x00"),
     );
     let again = held.load(b"\x00\x00\x00");
     let after = again.case;
-    let wrong = fresh().load(b"\x00\x00\x00");
+    let wrong = Case::fresh().load(b"\x00\x00\x00");
     let blank = wrong.case;
     text(b"after a refusal the case is as it was, loaded; fresh:");
     yes_no(same_case(held, after));
-    yes_no(same_case(fresh(), blank));
+    yes_no(same_case(Case::fresh(), blank));
     end();
     text(b"after clear it is fresh, loaded; fresh:");
-    yes_no(same_case(held.clear(), fresh()));
-    yes_no(same_case(fresh().clear(), fresh()));
+    yes_no(same_case(held.clear(), Case::fresh()));
+    yes_no(same_case(Case::fresh().clear(), Case::fresh()));
     end();
 }
 

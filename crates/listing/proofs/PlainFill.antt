@@ -1,43 +1,25 @@
--- The tables of encoding 0, body by body. Assumes nothing.
-use Prim.Native.Nat.{ℕ, zero, suc, _+_, _%_, _≤_, _<_}
+-- The tables of encoding 0, body by body: the words, and the numbers. Assumes nothing.
+use Prim.Native.Nat.{ℕ, zero, suc, _+_, _*_, _≤_, _<_}
 use native.Mathlib.Omega.{arith}
-use mathlib.Core.Path.{_≡_, refl, sym, ap, ap₂, subst, _∙_}
-use mathlib.Core.Logic.{_⊎_, inl, inr, ⊎-elim, _≢_}
+use native.Mathlib.Numerals.{add-one}
+use mathlib.Core.Path.{_≡_, sym, ap, ap₂, subst, _∙_}
+use mathlib.Core.Logic.{_⊎_, ⊎-elim, _≢_}
 use mathlib.Core.Bool.{not}
 use mathlib.Core.List.{List}
 use lib.Dec.{T, ltb, ltb→lt, nltb→le}
-use lib.ListN.{length, getD, set, replicate, length-set, length-replicate}
+use lib.ListN.{length, getD, set, length-set, length-append}
 use lib.Seq.{getD-set-same, getD-set-other}
+use Rattle.model.specs.Lists.{each, upTo}
 use Rattle.model.specs.Log.{transactionsIn, operationsIn, countAt, startAt, countsBefore, operationAt, loadNumber}
 use Rattle.model.proofs.Basics.{same?, decide}
+use Rattle.model.proofs.Loops.{each-snoc}
 use Rattle.model.proofs.Loaded.{Loaded, loaded, counts-suc, counts-mono, within}
-use Rattle.polygraph.proofs.Filling.{zeros}
-use Rattle.listing.specs.Plain.{plainMask, PlainRow, PlainTable}
+use Rattle.graph.specs.Members.{members}
+use Rattle.listing.specs.Choosing.{Chose, inRow}
+use Rattle.listing.specs.Plain.{maskOf, bodyWord, bodyNumbers, plainNumbersOf, plainNumbers, PlainTable}
+use Rattle.listing.proofs.Choosing.{chose-none, chose-app, row-few}
 
--- three words at once
-module _ (w : List ℕ) (i x y z : ℕ) where
-  abbrev pub three : List ℕ
-  three = set (set (set w i x) (1024 + i) y) (2048 + i) z
-
-  three-length : length three ≡ length w
-  three-length = length-set (set (set w i x) (1024 + i) y) (2048 + i) z ∙ length-set (set w i x) (1024 + i) y ∙ length-set w i x
-
-  three-other : (j : ℕ) → j ≢ i → j ≢ 1024 + i → j ≢ 2048 + i → getD three j 0 ≡ getD w j 0
-  three-other j p q r =
-      getD-set-other (set (set w i x) (1024 + i) y) (2048 + i) j z 0 r ∙ getD-set-other (set w i x) (1024 + i) j y 0 q ∙ getD-set-other w i j x 0 p
-
-  module _ (l : 2048 + i < length w) where
-    three-first : getD three i 0 ≡ x
-    three-first =
-        getD-set-other (set (set w i x) (1024 + i) y) (2048 + i) i z 0 (λ e. omega arith) ∙ getD-set-other (set w i x) (1024 + i) i y 0 (λ e. omega arith)
-        ∙ getD-set-same w i x 0 (omega arith)
-
-    three-second : getD three (1024 + i) 0 ≡ y
-    three-second =
-        getD-set-other (set (set w i x) (1024 + i) y) (2048 + i) (1024 + i) z 0 (λ e. omega arith) ∙ getD-set-same (set w i x) (1024 + i) y 0 (omega (arith, length-set w i x))
-
-    three-third : getD three (2048 + i) 0 ≡ z
-    three-third = getD-set-same (set (set w i x) (1024 + i) y) (2048 + i) z 0 (omega (arith, length-set (set w i x) (1024 + i) y, length-set w i x))
+-- ---- the words
 
 module _ (b : List ℕ) (e : loadNumber b ≡ 0) where
   abbrev ok : Loaded b
@@ -59,56 +41,97 @@ module _ (b : List ℕ) (e : loadNumber b ≡ 0) where
       (decide (ltb s t)))
       (same? s t)
 
-  pub plain-next : (ws w : List ℕ) (t m x y z : ℕ) → t < transactionsIn b → m < countAt b t → PlainTable b ws (startAt b t + m) w
-      → x ≡ plainMask (getD ws (operationAt b (startAt b t + m) .key) 0) t (operationAt b (startAt b t + m) .kind) (operationAt b (startAt b t + m) .argument)
-      → y ≡ t → z ≡ operationAt b (startAt b t + m) .argument % 32
-      → PlainTable b ws (startAt b t + (m + 1)) (three w (startAt b t + m) x y z)
-  plain-next ws w t m x y z tl ml p q r v =
+  pub plain-next : (w : List ℕ) (t m y : ℕ) → t < transactionsIn b → m < countAt b t → PlainTable b (startAt b t + m) w
+      → y ≡ bodyWord t (operationAt b (startAt b t + m)) → PlainTable b (startAt b t + (m + 1)) (set w (startAt b t + m) y)
+  plain-next w t m y tl ml p q =
       let i = startAt b t + m in
-      let il : i < 256 = omega (arith, within b ok t tl, ok .many) in
-      let room : 2048 + i < length w = omega (arith, p .long) in
       record {
-        long = three-length w i x y z ∙ p .long;
-        encoding = three-other w i x y z 3072 (λ f. omega arith) (λ f. omega arith) (λ f. omega arith) ∙ p .encoding;
+        long = length-set w i y ∙ p .long;
         done = λ s j sl jl k.
             ⊎-elim
             (λ (u : startAt b s + j ≡ i).
             let same = unique s j t m sl tl jl ml u in
-            subst (λ a. PlainRow b ws (three w i x y z) a j) (sym (same .0))
-            (subst (PlainRow b ws (three w i x y z) t) (sym (same .1))
-            (record { mask-is = three-first w i x y z room ∙ q; by-is = three-second w i x y z room ∙ r; names-is = three-third w i x y z room ∙ v })))
-            (λ (u : startAt b s + j ≢ i).
-            let low : startAt b s + j < i = omega arith in
-            let g = p .done s j sl jl low in
-            record {
-              mask-is = three-other w i x y z (startAt b s + j) u (λ f. omega arith) (λ f. omega arith) ∙ g .mask-is;
-              by-is = three-other w i x y z (1024 + (startAt b s + j)) (λ f. omega arith) (λ f. u (omega arith)) (λ f. omega arith) ∙ g .by-is;
-              names-is = three-other w i x y z (2048 + (startAt b s + j)) (λ f. omega arith) (λ f. omega arith) (λ f. u (omega arith)) ∙ g .names-is;
-            })
+            ap (λ x. getD (set w i y) x 0) u ∙ getD-set-same w i y 0 (omega (arith, within b ok t tl, ok .many, p .long)) ∙ q
+            ∙ ap₂ (λ x z. bodyWord x (operationAt b z)) (sym (same .0)) (sym u))
+            (λ (u : startAt b s + j ≢ i). getD-set-other w i (startAt b s + j) y 0 u ∙ p .done s j sl jl (omega arith))
             (same? (startAt b s + j) i);
-        rest = λ j k l. three-other w i x y z j (λ f. omega arith) (λ f. omega arith) (λ f. omega arith) ∙ p .rest j (omega arith) l;
       }
 
-  pub plain-start : (ws w : List ℕ) → w ≡ replicate 3073 0 → PlainTable b ws (countsBefore b 0) w
+  pub plain-start : (w : List ℕ) → length w ≡ 1025 → PlainTable b (countsBefore b 0) w
   unfolding countsBefore
-  plain-start ws w q =
-      record {
-        long = ap length q ∙ length-replicate {A = ℕ} 3073 0;
-        encoding = ap (λ x. getD x 3072 0) q ∙ zeros 3073 3072;
-        done = λ s j sl jl k. absurd (omega arith);
-        rest = λ i l k. ap (λ x. getD x i 0) q ∙ zeros 3073 i;
-      }
+  plain-start w q = record { long = q; done = λ s j sl jl k. absurd (omega arith) }
 
-  pub plain-enter : (ws w : List ℕ) (t : ℕ) → t < transactionsIn b → PlainTable b ws (countsBefore b t) w → PlainTable b ws (startAt b t) w
-  plain-enter ws w t l p = subst (λ n. PlainTable b ws n w) (sym (ok .starts t l)) p
+  pub plain-enter : (w : List ℕ) (t : ℕ) → t < transactionsIn b → PlainTable b (countsBefore b t) w → PlainTable b (startAt b t) w
+  plain-enter w t l p = subst (λ n. PlainTable b n w) (sym (ok .starts t l)) p
 
-  pub plain-begin : (ws w : List ℕ) (t : ℕ) → PlainTable b ws (startAt b t) w → PlainTable b ws (startAt b t + 0) w
-  plain-begin ws w t p = let q : startAt b t ≡ startAt b t + 0 = omega arith in subst (λ n. PlainTable b ws n w) q p
+  pub plain-begin : (w : List ℕ) (t : ℕ) → PlainTable b (startAt b t) w → PlainTable b (startAt b t + 0) w
+  plain-begin w t p = let q : startAt b t ≡ startAt b t + 0 = omega arith in subst (λ n. PlainTable b n w) q p
 
-  pub plain-leave : (ws w : List ℕ) (t : ℕ) → t < transactionsIn b → PlainTable b ws (startAt b t + countAt b t) w → PlainTable b ws (countsBefore b (t + 1)) w
-  plain-leave ws w t l p =
-      let q : startAt b t + countAt b t ≡ countsBefore b (t + 1) = start-next t l ∙ ap (countsBefore b) (sym (native.Mathlib.Numerals.add-one t)) in
-      subst (λ n. PlainTable b ws n w) q p
+  pub plain-leave : (w : List ℕ) (t : ℕ) → t < transactionsIn b → PlainTable b (startAt b t + countAt b t) w → PlainTable b (countsBefore b (t + 1)) w
+  plain-leave w t l p =
+      let q : startAt b t + countAt b t ≡ countsBefore b (t + 1) = start-next t l ∙ ap (countsBefore b) (sym (add-one t)) in
+      subst (λ n. PlainTable b n w) q p
 
-  pub plain-end : (ws w : List ℕ) (t : ℕ) → t ≡ transactionsIn b → PlainTable b ws (countsBefore b t) w → PlainTable b ws (operationsIn b) w
-  plain-end ws w t q p = subst (λ n. PlainTable b ws n w) (ap (countsBefore b) q ∙ ok .sum) p
+  pub plain-end : (w : List ℕ) (t : ℕ) → t ≡ transactionsIn b → PlainTable b (countsBefore b t) w → PlainTable b (operationsIn b) w
+  plain-end w t q p = subst (λ n. PlainTable b n w) (ap (countsBefore b) q ∙ ok .sum) p
+
+  -- the encoding is put behind the words
+  pub plain-mark : (w : List ℕ) → PlainTable b (operationsIn b) w → PlainTable b (operationsIn b) (set w 1024 0) × (getD (set w 1024 0) 1024 0 ≡ 0)
+  plain-mark w p = (
+    record {
+      long = length-set w 1024 0 ∙ p .long;
+      done = λ s j sl jl k. getD-set-other w 1024 (startAt b s + j) 0 0 (λ u. omega (arith, ok .many)) ∙ p .done s j sl jl k;
+    },
+    getD-set-same w 1024 0 0 (omega (arith, p .long)),
+  )
+
+  pub starts-low : (t r : ℕ) → t < transactionsIn b → r ≤ 32 * countsBefore b t → r ≤ 32 * startAt b t
+  starts-low t r l k = omega (arith, ok .starts t l)
+
+-- ---- the numbers
+
+module _ (b ws : List ℕ) where
+  pub numbers-none : (t n : ℕ) (ks : List ℕ) → Chose (plainNumbersOf b ws t 0) n ks n ks
+  unfolding plainNumbersOf
+  numbers-none t n ks = chose-none n ks
+
+  pub numbers-next : (t m from n r mask : ℕ) (ks ls ms : List ℕ) → Chose (plainNumbersOf b ws t m) from ks n ls → mask ≡ maskOf ws t (operationAt b (startAt b t + m))
+      → Chose (inRow (startAt b t + m) (members mask)) n ls r ms → Chose (plainNumbersOf b ws t (m + 1)) from ks r ms
+  unfolding plainNumbersOf bodyNumbers
+  numbers-next t m from n r mask ks ls ms p q c =
+      subst (λ cs. Chose cs from ks r ms) (sym (each-snoc (bodyNumbers b ws t) (upTo m) m) ∙ ap (plainNumbersOf b ws t) (sym (add-one m)))
+      (chose-app (each (bodyNumbers b ws t) (upTo m)) (bodyNumbers b ws t m) from n r ks ls ms p (subst (λ x. Chose (inRow (startAt b t + m) (members x)) n ls r ms) q c))
+
+  numbers-few : (t m : ℕ) → length (plainNumbersOf b ws t m) ≤ 32 * m
+  unfolding plainNumbersOf bodyNumbers
+  numbers-few t zero = omega arith
+  numbers-few t (suc m) =
+      omega (
+        arith,
+        numbers-few t m,
+        ap length (each-snoc (bodyNumbers b ws t) (upTo m) m),
+        length-append (each (bodyNumbers b ws t) (upTo m)) (bodyNumbers b ws t m),
+        row-few (startAt b t + m) (maskOf ws t (operationAt b (startAt b t + m))),
+      )
+
+  -- ---- by transaction
+
+  -- after the first t transactions: the count, and the numbers
+  pub record Bodies (ks : List ℕ) (t r : ℕ) (ls : List ℕ) : Type 0 where
+    pub low : r ≤ 32 * countsBefore b t
+    pub chose : Chose (plainNumbers b ws t) 0 ks r ls
+
+  pub bodies-none : (ks : List ℕ) → Bodies ks 0 0 ks
+  unfolding plainNumbers
+  bodies-none ks = record { low = omega arith; chose = chose-none 0 ks }
+
+  pub bodies-next : (ks ls ms : List ℕ) (t n r : ℕ) → Bodies ks t n ls → Chose (plainNumbersOf b ws t (countAt b t)) n ls r ms → Bodies ks (t + 1) r ms
+  unfolding plainNumbers
+  bodies-next ks ls ms t n r s c = record {
+    low = omega (arith, s .low, c .count, numbers-few t (countAt b t), counts-suc b t, ap (countsBefore b) (add-one t));
+    chose = subst (λ cs. Chose cs 0 ks r ms) (sym (each-snoc (λ s. plainNumbersOf b ws s (countAt b s)) (upTo t) t) ∙ ap (plainNumbers b ws) (sym (add-one t)))
+        (chose-app (plainNumbers b ws t) (plainNumbersOf b ws t (countAt b t)) 0 n r ks ls ms (s .chose) c);
+  }
+
+  pub bodies-all : (ks ls : List ℕ) (t n r : ℕ) → t ≡ n → Bodies ks t r ls → Chose (plainNumbers b ws n) 0 ks r ls
+  bodies-all ks ls t n r p s = subst (λ x. Chose (plainNumbers b ws x) 0 ks r ls) p (s .chose)

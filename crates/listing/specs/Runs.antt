@@ -1,27 +1,36 @@
 -- The tables of runs, as the code fills them: for encoding 1 every write stands for itself, for encoding 2 a head stands for its chain. Assumes nothing.
-use Prim.Native.Nat.{ℕ, zero, suc, _+_, _-_, _*_, _/_, _%_, _^_}
-use mathlib.Core.Bool.{Bool, true, false, cond, _&&_}
-use mathlib.Core.List.{List, map}
+use Prim.Native.Nat.{ℕ, zero, suc, _+_, _*_, _^_}
+use mathlib.Core.Bool.{Bool, true, cond, _&&_}
+use mathlib.Core.List.{List, [], _∷_, _++_}
 use lib.Dec.{eqb, ltb}
-use lib.Bits.{bitAnd, bitXor}
-use lib.ListN.{getD, set}
-use Rattle.model.specs.Lists.{upTo, bit}
+use lib.Bits.{bitAnd, bitOr, bitXor}
+use lib.Count.{trailingZeros}
+use lib.ListN.{length, getD, set}
+use Rattle.model.specs.Lists.{each, fold, upTo, bit, wordOf}
 use Rattle.model.specs.History.{History, size, writes}
 use Rattle.model.specs.Polygraph.{isHead, tailWithin}
-use Rattle.graph.specs.Masks.{orOver}
+use Rattle.graph.specs.Members.{members}
+use Rattle.polygraph.specs.Edges.{successorsBy}
+use Rattle.listing.specs.Choosing.{inRow}
 
--- the successor s of a writer u, as a mask
-unfoldable pub nextPart : ℕ → ℕ → ℕ → ℕ → ℕ
-nextPart n writers u s = cond (bit writers u && ltb s n) (2 ^ s) 0
+-- ---- those that stand for a run
 
--- the heads of a key: its writers that are nobody's successor
-unfoldable pub headBy : ℕ → ℕ → List ℕ → ℕ → ℕ
-headBy n writers nexts k =
-    bitXor writers (bitAnd writers (orOver (λ u. nextPart n writers u (getD nexts (k * 32 + u) 0)) 32))
+-- the lowest member of a set, as a set
+unfoldable pub lowOf : ℕ → ℕ
+lowOf w = wordOf 32 (λ v. bit w v && eqb v (trailingZeros 32 w))
 
--- those that stand for a run
-unfoldable pub firstBy : ℕ → ℕ → List ℕ → List ℕ → ℕ → ℕ
-firstBy e n writers nexts k = cond (eqb e 2) (headBy n (getD writers k 0) nexts k) (getD writers k 0)
+-- the successors of the writes us of key k, where own are the key's writers, with the set w
+unfoldable pub nextsOf : ℕ → List ℕ → ℕ → ℕ → List ℕ → ℕ
+nextsOf own marks k w us = fold (λ x u. bitOr x (lowOf (bitAnd (getD marks (k * 32 + u) 0) own))) w us
+
+-- the heads of key k, whose writers are own: those that are nobody's successor
+unfoldable pub headBy : ℕ → List ℕ → ℕ → ℕ
+headBy own marks k = bitXor own (bitAnd own (nextsOf own marks k 0 (members own)))
+
+unfoldable pub firstBy : ℕ → List ℕ → List ℕ → ℕ → ℕ
+firstBy e writers marks k = cond (eqb e 2) (headBy (getD writers k 0) marks k) (getD writers k 0)
+
+-- ---- the last write of a run, and its word
 
 -- follow the successors
 unfoldable pub tailBy : ℕ → List ℕ → ℕ → ℕ → ℕ → ℕ
@@ -31,44 +40,50 @@ tailBy n nexts k (suc m) u = cond (ltb (getD nexts (k * 32 + u) 0) n) (tailBy n 
 unfoldable pub lastBy : ℕ → ℕ → List ℕ → ℕ → ℕ → ℕ
 lastBy e n nexts k g = cond (eqb e 2) (tailBy n nexts k n g) g
 
--- ---- the rows of candidates: column j of row i, where i < j and both stand for a run
+-- the readers of the last write p; in encoding 2, where none of them writes the key, the sources of every side from the run
+unfoldable pub sourcesBy : ℕ → ℕ → ℕ → ℕ
+sourcesBy e p readers = cond (eqb e 2) (cond (eqb readers 0) (2 ^ p) readers) readers
 
-unfoldable pub rowBy : ℕ → ℕ → ℕ
-rowBy firsts i = cond (bit firsts i) (bitXor firsts (bitAnd firsts (2 ^ i - 1 + 2 ^ i))) 0
+-- the word of the run that g stands for
+unfoldable pub wordBy : ℕ → ℕ → List ℕ → List ℕ → ℕ → ℕ → ℕ
+wordBy e n writers marks k g =
+    sourcesBy e (lastBy e n (successorsBy n writers marks) k g) (getD marks (k * 32 + lastBy e n (successorsBy n writers marks) k g) 0)
 
-unfoldable pub firstsBy : ℕ → ℕ → List ℕ → List ℕ → List ℕ
-firstsBy e n writers nexts = map (firstBy e n writers nexts) (upTo 32)
+-- the words of the runs gs of a key
+unfoldable pub wordsBy : ℕ → ℕ → List ℕ → List ℕ → ℕ → List ℕ → List ℕ → List ℕ
+wordsBy e n writers marks k w gs = fold (λ x g. set x (k * 32 + g) (wordBy e n writers marks k g)) w gs
 
--- the last write of the run that g stands for, or 0 where it stands for none
-unfoldable pub endBy : ℕ → ℕ → ℕ → List ℕ → ℕ → ℕ → ℕ
-endBy e n firsts nexts k g = cond (bit firsts g) (lastBy e n nexts k g) 0
+-- ---- candidates: each two of a key's runs
 
--- ---- how the code fills the words: a key at a time
+-- of each two of a list, the first first
+unfoldable pub pairsOf : {B : Type 0} → (ℕ → List ℕ → List B) → List ℕ → List B
+pairsOf f [] = []
+pairsOf f (i ∷ js) = f i js ++ pairsOf f js
 
--- n words from place b on
-unfoldable pub puts : ℕ → (ℕ → ℕ) → ℕ → List ℕ → List ℕ
-puts b v zero w = w
-puts b v (suc n) w = set (puts b v n w) (b + n) (v n)
+unfoldable pub pairsIn : ℕ → List ℕ → List ℕ
+pairsIn k gs = pairsOf (λ i js. inRow (k * 32 + i) js) gs
 
--- the words of i places of a key: rows and ends
-unfoldable pub keyedTo : ℕ → ℕ → ℕ → List ℕ → ℕ → ℕ → List ℕ → List ℕ
-keyedTo e n firsts nexts k zero w = w
-keyedTo e n firsts nexts k (suc i) w =
-    set (set (keyedTo e n firsts nexts k i w) (k * 32 + i) (rowBy firsts i)) (1024 + k * 32 + i) (endBy e n firsts nexts k i)
+-- fewer than two: then there is no candidate
+unfoldable pub isFew : ℕ → Bool
+isFew w = ltb (length (members w)) 2
 
--- all of a key; one without runs is passed by
-unfoldable pub keyed : ℕ → ℕ → ℕ → List ℕ → ℕ → List ℕ → List ℕ
-keyed e n firsts nexts k w = cond (eqb firsts 0) w (keyedTo e n firsts nexts k 32 w)
+-- ---- a key, and all
 
--- ---- the whole list of 3,073 words
+-- whether nothing is to be done for a key
+unfoldable pub isIdle : ℕ → List ℕ → List ℕ → ℕ → Bool
+isIdle e writers marks k = cond (isFew (getD writers k 0)) true (isFew (firstBy e writers marks k))
 
-unfoldable pub tableWord : ℕ → ℕ → List ℕ → List ℕ → List ℕ → ℕ → ℕ
-tableWord e n firsts marks nexts i =
-    cond (ltb i 1024) (rowBy (getD firsts (i / 32) 0) (i % 32))
-    (cond (ltb i 2048) (endBy e n (getD firsts ((i - 1024) / 32) 0) nexts ((i - 1024) / 32) ((i - 1024) % 32)) (cond (ltb i 3072) (getD marks (i - 2048) 0) e))
+unfoldable pub keyWords : ℕ → ℕ → List ℕ → List ℕ → List ℕ → ℕ → List ℕ
+keyWords e n writers marks w k = cond (isIdle e writers marks k) w (wordsBy e n writers marks k w (members (firstBy e writers marks k)))
 
-unfoldable pub tableBy : ℕ → ℕ → List ℕ → List ℕ → List ℕ → List ℕ
-tableBy e n writers marks nexts = map (tableWord e n (firstsBy e n writers nexts) marks nexts) (upTo 3073)
+unfoldable pub keyNumbers : ℕ → List ℕ → List ℕ → ℕ → List ℕ
+keyNumbers e writers marks k = cond (isIdle e writers marks k) [] (pairsIn k (members (firstBy e writers marks k)))
+
+unfoldable pub runWords : ℕ → ℕ → List ℕ → List ℕ → List ℕ → List ℕ
+runWords e n writers marks w = set (fold (keyWords e n writers marks) w (upTo 32)) 1024 e
+
+unfoldable pub runNumbers : ℕ → List ℕ → List ℕ → List ℕ
+runNumbers e writers marks = each (keyNumbers e writers marks) (upTo 32)
 
 -- what the model says of them
 unfoldable pub firstOf : History → ℕ → ℕ → ℕ → Bool

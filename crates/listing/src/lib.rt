@@ -1,16 +1,29 @@
 // The listing of all three encodings, from tables, into a list that the caller lends.
-// Candidates are numbers in document 01's order; the tables say which of them are constraints, in rows of 32.
+// Candidates are numbers in document 01's order. The tables say what a candidate's constraint is, and a list of numbers which of them are constraints;
+// both are lent.
 ghost use mathlib.Core.Path.{_≡_};
-ghost use Prim.Native.Nat.{_<_, _≤_, _-_, _/_, _^_};
-ghost use lib.Count.{ones};
-ghost use lib.ListN.{length};
-ghost use Rattle.listing.specs.Candidates.{pairItem, plainItem, endsBy, itemBy, seek, listBy};
-ghost use Rattle.listing.specs.Listing.{foundAt, found, Listing};
+ghost use Prim.Native.Nat.{_<_, _≤_};
+ghost use mathlib.Core.List.{_++_};
+ghost use lib.ListN.{length, getD, drop};
+ghost use Rattle.graph.specs.Members.{members};
+ghost use Rattle.listing.specs.Candidates.{pairItem, chainItem, plainItem, endsBy, itemBy, itemsBy};
+ghost use Rattle.listing.specs.Choosing.{pushed, Chose, inRow};
+use graph::mask::clear_low;
 use graph::mask::without;
 use model::Constraint;
 
 pub mod plain;
 pub mod runs;
+
+// How many words the tables have: one for each row of candidates, and the encoding.
+pub const WORDS: usize = 1025;
+
+const ROWS: usize = 1024;
+
+const ENCODING: usize = 1024;
+
+// How many candidates' numbers have a place.
+pub const PLACES: usize = 4096;
 
 // The readers without x or, where there are none, w alone.
 fn ends(readers: u32, w: u32, x: u32) -> u32
@@ -21,20 +34,15 @@ fn ends(readers: u32, w: u32, x: u32) -> u32
     if others == 0 { 1 << w } else { others }
 }
 
-// Encodings 1 and 2: the constraint of candidate c.
-fn pair_item(tables: &[u32; 3073], c: usize) -> Constraint
-    requires { ⌜ c < 32768 ⌝ }
+// Encoding 1: the constraint of candidate c, where the words have readers.
+fn pair_item(tables: &[u32; WORDS], c: usize) -> Constraint
     ensures { λ r. ⌜ r ≡ pairItem (now (tables .entry)) c ⌝ }
 {
-    let k = c / 1024;
-    let i = c / 32 % 32;
+    let row = c / 32 % ROWS;
+    let i = row % 32;
     let j = c % 32;
-    let p = tables[1024 + (k * 32 + i)] % 32;
-    let q = tables[1024 + (k * 32 + j)] % 32;
-    let a = tables[2048 + (k * 32 + p as usize)];
-    let b = tables[2048 + (k * 32 + q as usize)];
-    let from_a = ends(a, p, j as u32);
-    let from_b = ends(b, q, i as u32);
+    let from_a = ends(tables[row], i as u32, j as u32);
+    let from_b = ends(tables[row / 32 * 32 + j], j as u32, i as u32);
     Constraint {
         fromA: from_a,
         toA: j as u32,
@@ -43,137 +51,101 @@ fn pair_item(tables: &[u32; 3073], c: usize) -> Constraint
     }
 }
 
-// Encoding 0: the constraint of candidate c.
-fn plain_item(tables: &[u32; 3073], c: usize) -> Constraint
-    requires { ⌜ c < 32768 ⌝ }
+// Encoding 2: the constraint of candidate c, where the words have sources.
+fn chain_item(tables: &[u32; WORDS], c: usize) -> Constraint
+    ensures { λ r. ⌜ r ≡ chainItem (now (tables .entry)) c ⌝ }
+{
+    let row = c / 32 % ROWS;
+    let j = c % 32;
+    Constraint {
+        fromA: tables[row],
+        toA: j as u32,
+        fromB: tables[row / 32 * 32 + j],
+        toB: (row % 32) as u32,
+    }
+}
+
+// Encoding 0: the constraint of candidate c, where a word has two transactions.
+fn plain_item(tables: &[u32; WORDS], c: usize) -> Constraint
     ensures { λ r. ⌜ r ≡ plainItem (now (tables .entry)) c ⌝ }
 {
     let v = (c % 32) as u32;
-    let t = tables[1024 + c / 32] % 32;
-    let u = tables[2048 + c / 32] % 32;
+    let word = tables[c / 32 % ROWS];
     Constraint {
-        fromA: 1 << t,
+        fromA: 1 << (word % 32),
         toA: v,
         fromB: 1 << v,
-        toB: u,
+        toB: word / 32 % 32,
     }
 }
 
 // The constraint of candidate c, in any encoding.
-pub fn item(tables: &[u32; 3073], c: usize) -> Constraint
-    requires { ⌜ c < 32768 ⌝ }
+fn item(tables: &[u32; WORDS], c: usize) -> Constraint
     ensures { λ r. ⌜ r ≡ itemBy (now (tables .entry)) c ⌝ }
 {
-    if tables[3072] == 0 {
+    let encoding = tables[ENCODING];
+    if encoding == 2 {
+        return chain_item(tables, c);
+    }
+    if encoding == 0 {
         plain_item(tables, c)
     } else {
         pair_item(tables, c)
     }
 }
 
-// A row of candidates from a column on.
-fn from_column(row: u32, column: usize) -> u32
-    requires { ⌜ column < 32 ⌝ }
-    ensures { λ r. ⌜ (r ≡ row / 2 ^ column) × (row < 2 ^ 32) ⌝ }
+fn wide(c: u16) -> usize
+    ensures { λ r. ⌜ r ≡ c ⌝ }
 {
-    row >> column
+    c as usize
 }
 
-// How many columns of a row are wanted.
-fn columns(row: u32) -> usize
-    ensures { λ r. ⌜ (r ≡ ones row) × (row < 2 ^ 32) ⌝ }
+// The constraint of the i-th number.
+pub fn nth<'a>(tables: &'a [u32; WORDS], chosen: &'a [u16; PLACES], i: usize) -> Constraint
+    requires { ⌜ i < 4096 ⌝ }
+    ensures { λ r. ⌜ r ≡ itemBy (now (tables .entry)) (getD (now (chosen .entry)) i 0) ⌝ }
 {
-    u32::count_ones(row) as usize
+    item(tables, wide(chosen[i]))
 }
 
-// The first wanted candidate from `at` on, or 32768: rows without one are passed by at once.
-pub fn search(tables: &[u32; 3073], at: usize) -> usize
-    requires { ⌜ at ≤ 32768 ⌝ }
-    ensures { λ r. ⌜ (r ≡ seek (now (tables .entry)) at (32768 - at)) × (r ≤ 32768) ⌝ }
+// The number c at place n; one without a place is counted alone.
+fn push(chosen: &mut [u16; PLACES], n: usize, c: usize)
+    requires { ⌜ c < 65536 ⌝ }
+    ensures { λ _. ⌜ now (chosen .exit) ≡ pushed (now (chosen .entry)) n c ⌝ }
 {
-    let mut c = at;
-    while c < 32768 {
-        let later = from_column(tables[c / 32], c % 32);
-        if later != 0 {
-            return c + u32::trailing_zeros(later) as usize;
-        }
-        c = (c / 32 + 1) * 32;
-    }
-    c
-}
-
-pub struct Found {
-    pub ok: usize,
-    pub next: usize,
-    pub item: Constraint,
-}
-
-pub struct Listed {
-    pub count: usize,
-    pub next: usize,
-}
-
-// What stands at candidate z, or nothing at the end.
-fn take(tables: &[u32; 3073], z: usize) -> Found
-    requires { ⌜ z ≤ 32768 ⌝ }
-    ensures { λ r. ⌜ r ≡ foundAt (now (tables .entry)) z ⌝ }
-{
-    if z < 32768 {
-        let c = item(tables, z);
-        Found {
-            ok: 1,
-            next: z + 1,
-            item: c,
-        }
-    } else {
-        Found {
-            ok: 0,
-            next: z,
-            item: Constraint {
-                fromA: 0,
-                toA: 0,
-                fromB: 0,
-                toB: 0,
-            },
-        }
+    if n < PLACES {
+        chosen[n] = c as u16;
     }
 }
 
-// The first from a candidate on.
-pub fn find(tables: &[u32; 3073], at: usize) -> Found
-    requires { ⌜ at ≤ 32768 ⌝ }
-    ensures { λ r. ⌜ r ≡ found (now (tables .entry)) at ⌝ }
+// The candidates of a row, lowest first, after `from` others: how many there are then.
+fn choose(columns: u32, row: usize, from: usize, chosen: &mut [u16; PLACES]) -> usize
+    requires { ⌜ (row < 1024) × (from ≤ 65536) ⌝ }
+    ensures { λ r. ⌜ Chose (inRow row (members columns)) from (now (chosen .entry)) r (now (chosen .exit)) ⌝ }
 {
-    take(tables, search(tables, at))
-}
-
-// The constraints of the tables are written to the list, until it is full or none is left: a thin loop, proved by hand.
-pub fn list<'a, 'b>(tables: &'a [u32; 3073], out: &'b mut [Constraint]) -> Listed
-    ensures { λ r. ⌜ Listing (now (tables .entry)) 0 (now (out .entry)) r (now (out .exit)) ⌝ }
-{
-    let mut at = 0;
-    let mut n = 0;
-    while n < out.len() {
-        let r = find(tables, at);
-        if r.ok == 0 {
-            break;
-        }
-        out[n] = r.item;
-        at = r.next;
+    let mut n = from;
+    let mut m = columns;
+    while m != 0 {
+        push(chosen, n, row * 32 + u32::trailing_zeros(m) as usize);
         n += 1;
-    }
-    Listed { count: n, next: at }
-}
-
-// How many constraints the tables have: the count before pruning.
-pub fn count(tables: &[u32; 3073]) -> usize
-    ensures { λ r. ⌜ r ≡ length (listBy (now (tables .entry))) ⌝ }
-{
-    let mut n: usize = 0;
-    let mut i: usize = 0;
-    while i < 1024 {
-        n += columns(tables[i]);
-        i += 1;
+        m = clear_low(m);
     }
     n
+}
+
+// The constraints of the first n numbers are written to the list: a thin loop, proved by hand.
+pub fn list<'a, 'b>(
+    tables: &'a [u32; WORDS],
+    chosen: &'a [u16; PLACES],
+    n: usize,
+    out: &'b mut [Constraint],
+)
+    requires { ⌜ (n ≤ 4096) × (n ≤ length (now out)) ⌝ }
+    ensures { λ _. ⌜ now (out .exit) ≡ itemsBy (now (tables .entry)) (now (chosen .entry)) n ++ drop n (now (out .entry)) ⌝ }
+{
+    let mut i = 0;
+    while i < n {
+        out[i] = nth(tables, chosen, i);
+        i += 1;
+    }
 }

@@ -1,61 +1,53 @@
 // The tables of runs of writes, for encodings 1 and 2.
 ghost use mathlib.Core.Path.{_≡_};
-ghost use Prim.Native.Nat.{_<_, _≤_, _+_};
-ghost use lib.ListN.{getD};
-ghost use Rattle.graph.specs.Masks.{orOver};
-ghost use Rattle.listing.specs.Runs.{nextPart, headBy, firstBy, tailBy, lastBy, rowBy, firstsBy, endBy, puts, keyed, tableBy};
-use graph::mask::has;
+ghost use Prim.Native.Nat.{_<_, _≤_};
+ghost use Rattle.graph.specs.Members.{members};
+ghost use Rattle.polygraph.specs.Edges.{successorsBy};
+ghost use Rattle.listing.specs.Choosing.{Chose};
+ghost use Rattle.listing.specs.Runs.{headBy, firstBy, tailBy, lastBy, sourcesBy, wordBy, wordsBy, pairsIn, isFew, keyWords, keyNumbers, runWords, runNumbers};
+use crate::ENCODING;
+use crate::PLACES;
+use crate::WORDS;
+use graph::mask::clear_low;
+use graph::mask::lowest;
+use polygraph::MARKS;
 
-// The successor s of a writer u, as a mask.
-fn next_part(n: u32, writers: u32, u: u32, s: u32) -> u32
-    requires { ⌜ (u < 32) × (n ≤ 32) ⌝ }
-    ensures { λ r. ⌜ r ≡ nextPart n writers u s ⌝ }
+// The heads of key k, whose writers are `own`: those that are nobody's successor.
+fn head(own: u32, marks: &[u32; MARKS], k: usize) -> u32
+    requires { ⌜ k < 32 ⌝ }
+    ensures { λ r. ⌜ r ≡ headBy own (now (marks .entry)) k ⌝ }
 {
-    if !has(writers, u) {
-        return 0;
+    let mut nexts: u32 = 0;
+    let mut m = own;
+    while m != 0 {
+        let u = u32::trailing_zeros(m) as usize;
+        nexts = nexts | lowest(marks[k * 32 + u] & own);
+        m = clear_low(m);
     }
-    if s < n { 1 << s } else { 0 }
-}
-
-// The heads of a key: its writers that are nobody's successor.
-pub fn head(n: u32, writers: u32, nexts: &[u32; 1024], k: usize) -> u32
-    requires { ⌜ (k < 32) × (n ≤ 32) ⌝ }
-    ensures { λ r. ⌜ r ≡ headBy n writers (now (nexts .entry)) k ⌝ }
-{
-    if writers == 0 {
-        return 0;
-    }
-    let mut word: u32 = 0;
-    let mut u: usize = 0;
-    while u < 32 {
-        word = word | next_part(n, writers, u as u32, nexts[k * 32 + u]);
-        u += 1;
-    }
-    writers ^ (writers & word)
+    own ^ (own & nexts)
 }
 
 // Those that stand for a run of writes of the key.
-pub fn first(encoding: u8, n: u32, writers: [u32; 32], nexts: &[u32; 1024], k: usize) -> u32
-    requires { ⌜ (k < 32) × (n ≤ 32) ⌝ }
-    ensures { λ r. ⌜ r ≡ firstBy encoding n writers (now (nexts .entry)) k ⌝ }
+fn first(encoding: u8, writers: &[u32; 32], marks: &[u32; MARKS], k: usize) -> u32
+    requires { ⌜ k < 32 ⌝ }
+    ensures { λ r. ⌜ r ≡ firstBy encoding (now (writers .entry)) (now (marks .entry)) k ⌝ }
 {
-    let w = writers[k];
     if encoding == 2 {
-        head(n, w, nexts, k)
+        head(writers[k], marks, k)
     } else {
-        w
+        writers[k]
     }
 }
 
 // The end of the chain from u, by at most n steps.
-pub fn tail(n: u32, nexts: &[u32; 1024], k: usize, u: u32) -> u32
+fn tail(n: u32, writers: &[u32; 32], marks: &[u32; MARKS], k: usize, u: u32) -> u32
     requires { ⌜ (k < 32) × (n ≤ 32) × (u < 32) ⌝ }
-    ensures { λ r. ⌜ r ≡ tailBy n (now (nexts .entry)) k n u ⌝ }
+    ensures { λ r. ⌜ (r ≡ tailBy n (successorsBy n (now (writers .entry)) (now (marks .entry))) k n u) × (r < 32) ⌝ }
 {
     let mut at = u;
     let mut m: u32 = 0;
     while m < n {
-        let s = nexts[k * 32 + at as usize];
+        let s = polygraph::next_at(n, writers, marks, k, at as usize);
         if s >= n {
             return at;
         }
@@ -66,110 +58,128 @@ pub fn tail(n: u32, nexts: &[u32; 1024], k: usize, u: u32) -> u32
 }
 
 // The last write of the run that g stands for.
-pub fn last(encoding: u8, n: u32, nexts: &[u32; 1024], k: usize, g: u32) -> u32
+fn last(encoding: u8, n: u32, writers: &[u32; 32], marks: &[u32; MARKS], k: usize, g: u32) -> u32
     requires { ⌜ (k < 32) × (n ≤ 32) × (g < 32) ⌝ }
-    ensures { λ r. ⌜ r ≡ lastBy encoding n (now (nexts .entry)) k g ⌝ }
+    ensures { λ r. ⌜ (r ≡ lastBy encoding n (successorsBy n (now (writers .entry)) (now (marks .entry))) k g) × (r < 32) ⌝ }
 {
     if encoding == 2 {
-        tail(n, nexts, k, g)
+        tail(n, writers, marks, k, g)
     } else {
         g
     }
 }
 
-// Those that stand for a run of writes, for each key.
-pub fn firsts(encoding: u8, n: u32, writers: [u32; 32], nexts: &[u32; 1024]) -> [u32; 32]
-    requires { ⌜ n ≤ 32 ⌝ }
-    ensures { λ r. ⌜ r ≡ firstsBy encoding n writers (now (nexts .entry)) ⌝ }
+// The readers of the last write p of a run; in encoding 2, where none of them writes the key, the sources of every side from the run.
+fn sources(encoding: u8, p: u32, readers: u32) -> u32
+    requires { ⌜ p < 32 ⌝ }
+    ensures { λ r. ⌜ r ≡ sourcesBy encoding p readers ⌝ }
 {
-    let mut out = [0u32; 32];
-    let mut k: usize = 0;
-    while k < 32 {
-        out[k] = first(encoding, n, writers, nexts, k);
-        k += 1;
+    if encoding != 2 {
+        return readers;
     }
-    out
+    if readers == 0 { 1 << p } else { readers }
 }
 
-// A row of candidates: those after i, where i stands for a run.
-fn row(firsts: u32, i: u32) -> u32
-    requires { ⌜ i < 32 ⌝ }
-    ensures { λ r. ⌜ r ≡ rowBy firsts i ⌝ }
-{
-    if !has(firsts, i) {
-        return 0;
-    }
-    let own: u32 = 1 << i;
-    let upto = own - 1 + own;
-    firsts ^ (firsts & upto)
-}
-
-// The last write of the run that g stands for, or 0 where it stands for none.
-fn run_end(encoding: u8, n: u32, firsts: u32, nexts: &[u32; 1024], k: usize, g: u32) -> u32
+// The word of the run that g stands for.
+fn word(encoding: u8, n: u32, writers: &[u32; 32], marks: &[u32; MARKS], k: usize, g: u32) -> u32
     requires { ⌜ (k < 32) × (n ≤ 32) × (g < 32) ⌝ }
-    ensures { λ r. ⌜ r ≡ endBy encoding n firsts (now (nexts .entry)) k g ⌝ }
+    ensures { λ r. ⌜ r ≡ wordBy encoding n (now (writers .entry)) (now (marks .entry)) k g ⌝ }
 {
-    if !has(firsts, g) {
-        return 0;
-    }
-    last(encoding, n, nexts, k, g)
+    let p = last(encoding, n, writers, marks, k, g);
+    sources(encoding, p, marks[k * 32 + p as usize])
 }
 
-// The words of a key: its rows of candidates, and the last writes of its runs. A key without runs has none.
-fn key_words(
+// The words of the runs of a key.
+fn words(
     encoding: u8,
     n: u32,
     firsts: u32,
-    nexts: &[u32; 1024],
+    writers: &[u32; 32],
+    marks: &[u32; MARKS],
     k: usize,
-    out: &mut [u32; 3073],
+    out: &mut [u32; WORDS],
 )
     requires { ⌜ (k < 32) × (n ≤ 32) ⌝ }
-    ensures { λ _. ⌜ now (out .exit) ≡ keyed encoding n firsts (now (nexts .entry)) k (now (out .entry)) ⌝ }
+    ensures { λ _. ⌜ now (out .exit) ≡ wordsBy encoding n (now (writers .entry)) (now (marks .entry)) k (now (out .entry)) (members firsts) ⌝ }
 {
-    if firsts == 0 {
-        return;
-    }
-    let rows = k * 32;
-    let ends = 1024 + rows;
-    let mut i: usize = 0;
-    while i < 32 {
-        out[rows + i] = row(firsts, i as u32);
-        out[ends + i] = run_end(encoding, n, firsts, nexts, k, i as u32);
-        i += 1;
+    let mut m = firsts;
+    while m != 0 {
+        let g = u32::trailing_zeros(m);
+        out[k * 32 + g as usize] = word(encoding, n, writers, marks, k, g);
+        m = clear_low(m);
     }
 }
 
-// The good readers.
-fn put_readers(marks: &[u32; 1057], out: &mut [u32; 3073])
-    ensures { λ _. ⌜ now (out .exit) ≡ puts 2048 (λ i. getD (now (marks .entry)) i 0) 1024 (now (out .entry)) ⌝ }
+// The candidates of a key: each two of its runs, after `from` others.
+fn pairs(firsts: u32, k: usize, from: usize, chosen: &mut [u16; PLACES]) -> usize
+    requires { ⌜ (k < 32) × (from ≤ 32768) ⌝ }
+    ensures { λ r. ⌜ Chose (pairsIn k (members firsts)) from (now (chosen .entry)) r (now (chosen .exit)) ⌝ }
 {
-    let mut i: usize = 0;
-    while i < 1024 {
-        out[2048 + i] = marks[i];
-        i += 1;
+    let mut n = from;
+    let mut m = firsts;
+    while m != 0 {
+        let i = u32::trailing_zeros(m) as usize;
+        m = clear_low(m);
+        n = crate::choose(m, k * 32 + i, n, chosen);
     }
+    n
 }
 
-// The tables of runs: the rows of candidates, the last writes of the runs, the good readers, and the encoding.
+// Whether a set has fewer than two members.
+fn few(set: u32) -> bool
+    ensures { λ r. ⌜ r ≡ isFew set ⌝ }
+{
+    if set == 0 {
+        return true;
+    }
+    clear_low(set) == 0
+}
+
+// The words and the candidates of a key, after `from` candidates. One run alone has neither.
+fn key(
+    encoding: u8,
+    n: u32,
+    writers: &[u32; 32],
+    marks: &[u32; MARKS],
+    k: usize,
+    from: usize,
+    out: &mut [u32; WORDS],
+    chosen: &mut [u16; PLACES],
+) -> usize
+    requires { ⌜ (k < 32) × (n ≤ 32) × (from ≤ 32768) ⌝ }
+    ensures { λ r. ⌜ (now (out .exit) ≡ keyWords encoding n (now (writers .entry)) (now (marks .entry)) (now (out .entry)) k)
+        × Chose (keyNumbers encoding (now (writers .entry)) (now (marks .entry)) k) from (now (chosen .entry)) r (now (chosen .exit)) ⌝ }
+{
+    if few(writers[k]) {
+        return from;
+    }
+    let firsts = first(encoding, writers, marks, k);
+    if few(firsts) {
+        return from;
+    }
+    words(encoding, n, firsts, writers, marks, k, out);
+    pairs(firsts, k, from, chosen)
+}
+
+// The tables of runs, and their candidates; how many.
 pub fn table(
     encoding: u8,
     n: u32,
-    writers: [u32; 32],
-    marks: &[u32; 1057],
-    nexts: &[u32; 1024],
-) -> [u32; 3073]
+    writers: &[u32; 32],
+    marks: &[u32; MARKS],
+    out: &mut [u32; WORDS],
+    chosen: &mut [u16; PLACES],
+) -> usize
     requires { ⌜ n ≤ 32 ⌝ }
-    ensures { λ r. ⌜ r ≡ tableBy encoding n writers (now (marks .entry)) (now (nexts .entry)) ⌝ }
+    ensures { λ r. ⌜ (now (out .exit) ≡ runWords encoding n (now (writers .entry)) (now (marks .entry)) (now (out .entry)))
+        × Chose (runNumbers encoding (now (writers .entry)) (now (marks .entry))) 0 (now (chosen .entry)) r (now (chosen .exit)) ⌝ }
 {
-    let heads = firsts(encoding, n, writers, nexts);
-    let mut out = [0u32; 3073];
+    let mut count: usize = 0;
     let mut k: usize = 0;
     while k < 32 {
-        key_words(encoding, n, heads[k], nexts, k, &mut out);
+        count = key(encoding, n, writers, marks, k, count, out, chosen);
         k += 1;
     }
-    put_readers(marks, &mut out);
-    out[3072] = encoding as u32;
-    out
+    out[ENCODING] = encoding as u32;
+    count
 }

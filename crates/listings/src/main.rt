@@ -4,14 +4,12 @@ use checker::Case;
 use checker::Encoding;
 use checker::Reply;
 use direct::Polygraph;
-use model::Constraint;
-use samples::fresh;
 use samples::lines::end;
 use samples::lines::number;
 use samples::lines::text;
 use samples::loaded;
-use samples::reply_number;
 use samples::same_case;
+use trial::log::Bytes;
 use windows::Shape;
 
 mod windows;
@@ -74,19 +72,12 @@ fn encode_with(c: Case, l: Lent, rows: &mut [u32], out: &mut [u32]) -> Encoding 
     if out.len() < 16384 {
         return not_called(c);
     }
-    let mark = Constraint {
-        fromA: l.mark,
-        toA: l.mark,
-        fromB: l.mark,
-        toB: l.mark,
-    };
-    lender::encode(
+    lists::encode(
         c,
         l.encoding,
         l.pruning,
         places,
-        mark,
-        true,
+        lists::marked(l.mark),
         &mut rows[0..words],
         out,
     )
@@ -98,7 +89,7 @@ fn encoded(c: Case, l: Lent, out: &mut [u32]) -> Seen {
     let r = e.reply;
     let after = e.case;
     Seen {
-        number: reply_number(r),
+        number: r.number() as u64,
         left: e.left,
         kept: same_case(c, after),
         rows,
@@ -106,19 +97,6 @@ fn encoded(c: Case, l: Lent, out: &mut [u32]) -> Seen {
 }
 
 // ---- the comparison
-
-// Whether the first n words are the same.
-fn same_words(a: &[u32; 16384], b: &[u32; 16384], n: usize) -> bool {
-    for i in 0..16384usize {
-        if i >= n {
-            return true;
-        }
-        if a[i] != b[i] {
-            return false;
-        }
-    }
-    true
-}
 
 // Whether the row words are those that are expected, and the further ones as they were.
 fn same_rows(seen: [u32; 40], rows: [u32; 32]) -> bool {
@@ -141,7 +119,7 @@ fn agrees(c: Case, l: Lent, p: Polygraph, list: &[u32; 16384]) -> bool {
         && s.left == p.left
         && s.kept
         && same_rows(seen, rows)
-        && same_words(&out, list, 4 * (l.places % 4097))
+        && lists::same_words(&out, list, 4 * (l.places % 4097))
 }
 
 // Whether Encode refuses with the number, and leaves all as it was.
@@ -154,7 +132,7 @@ fn refuses(c: Case, l: Lent, expected: u64) -> bool {
         && s.left == 0
         && s.kept
         && same_rows(seen, [WORD; 32])
-        && same_words(&out, &blank, 4 * (l.places % 4097))
+        && lists::same_words(&out, &blank, 4 * (l.places % 4097))
 }
 
 // ---- the histories
@@ -246,39 +224,56 @@ fn none() -> Tally {
     }
 }
 
-// The small histories of a kind.
+// Where the logs come from: small histories of a kind; those of a kind with 32 transactions over 4 keys; full windows of a shape.
+enum Source {
+    Small(u8),
+    FewKeys(u8),
+    Windows(Shape),
+}
+
+// The log of a source by its number.
+fn log_by(source: Source, seed: u64) -> Bytes {
+    match source {
+        Source::Small(kind) => trial::log::of(trial::small(kind, seed)),
+        Source::FewKeys(kind) => trial::log::of(trial::history(kind, 32, 4, seed)),
+        Source::Windows(shape) => Bytes {
+            bytes: windows::log_of(shape, seed),
+            length: 1156,
+        },
+    }
+}
+
+// What stands in the lent list.
+fn mark_by(source: Source, seed: u64) -> u32 {
+    match source {
+        Source::Small(_) => (7919 * (seed % 65536)) as u32,
+        Source::FewKeys(_) => 4294967295,
+        Source::Windows(_) => 65535,
+    }
+}
+
+// The first so many logs of a source.
+fn totals(source: Source, count: u64) -> Tally {
+    let mut t = none();
+    for seed in 0..count {
+        let l = log_by(source, seed);
+        let bytes = l.bytes;
+        let next = with_log(t, &bytes, l.length, mark_by(source, seed));
+        t = next;
+    }
+    t
+}
+
 fn small(kind: u8) -> Tally {
-    let mut t = none();
-    for seed in 0..SMALL {
-        let l = trial::log::of(trial::small(kind, seed));
-        let bytes = l.bytes;
-        let next = with_log(t, &bytes, l.length, (7919 * seed % 4294967295) as u32);
-        t = next;
-    }
-    t
+    totals(Source::Small(kind), SMALL)
 }
 
-// The histories of a kind with 32 transactions over 4 keys.
 fn few_keys(kind: u8) -> Tally {
-    let mut t = none();
-    for seed in 0..FULL {
-        let l = trial::log::of(trial::history(kind, 32, 4, seed));
-        let bytes = l.bytes;
-        let next = with_log(t, &bytes, l.length, 4294967295);
-        t = next;
-    }
-    t
+    totals(Source::FewKeys(kind), FULL)
 }
 
-// The full windows of a shape.
 fn full(shape: Shape) -> Tally {
-    let mut t = none();
-    for seed in 0..FULL {
-        let bytes = windows::log_of(shape, seed);
-        let next = with_log(t, &bytes, 1156, 65535);
-        t = next;
-    }
-    t
+    totals(Source::Windows(shape), FULL)
 }
 
 // ---- the output
@@ -361,9 +356,9 @@ fn settings() -> Tally {
 
 // A fresh case, also where the setting is out of range and the lists are too short.
 fn blanks() -> Tally {
-    let a = with_refusal(none(), fresh(), asking(0, 0, 4096, 32), 22);
-    let b = with_refusal(a, fresh(), asking(2, 1, 0, 31), 22);
-    with_refusal(b, fresh(), asking(3, 2, 0, 0), 22)
+    let a = with_refusal(none(), Case::fresh(), asking(0, 0, 4096, 32), 22);
+    let b = with_refusal(a, Case::fresh(), asking(2, 1, 0, 31), 22);
+    with_refusal(b, Case::fresh(), asking(3, 2, 0, 0), 22)
 }
 
 fn main() {

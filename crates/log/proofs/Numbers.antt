@@ -10,17 +10,18 @@ use lib.Dec.{T, eqb, ltb, eqb→eq, nltb→le}
 use lib.Bits.{bitOr, or-lt}
 use lib.ListN.{length}
 use lib.Pow.{pow-lt}
-use Rattle.model.specs.Lists.{bit, wordOf, any, upTo}
+use Rattle.model.specs.Lists.{bit, wordOf, upTo}
 use Rattle.model.specs.History.{start}
-use Rattle.model.specs.Log.{byteAt, pairAt, transactionsIn, operationsIn, countAt, startAt, countsBefore, bodyAt, kindAt, keyAt, argumentAt, orElse, firstNumber, entryNumber, seen, bodyNumber, bodiesNumber, loadNumber}
+use Rattle.model.specs.Log.{transactionsIn, operationsIn, countAt, startAt, countsBefore, kindAt, keyAt, argumentAt, orElse, firstNumber, entryNumber, seen, bodyNumber, bodiesNumber, loadNumber}
 use Rattle.model.proofs.Words.{bit-word, word-lt}
 use Rattle.model.proofs.Masks.{bit-or, bit-one, same-bits}
 use Rattle.model.proofs.Loops.{any-snoc}
-use Rattle.model.proofs.Basics.{true-eq, false-eq, decide, eqb-comm}
-use Rattle.model.proofs.Loaded.{Bytes, first-suc, or-else-none, or-else-some, first-on, first-stop, first-out, counts-suc, counts-mono, good-entry, GoodEntry, good-body, GoodBody}
+use Rattle.model.proofs.Basics.{eqb-comm}
+use Rattle.model.proofs.Loaded.{Bytes, first-suc, or-else-none, or-else-some, first-on, first-stop, first-out, counts-suc, counts-mono, good-entry, good-body}
 use borrow.Author.Tests.{eq-eqb, ne-eqb, lt-ltb, le-ltb}
 use Rattle.log.specs.Tests.{entryBy, nextBy, summedTo, named, readBy, writeBy, bodyBy, markBy}
-use Rattle.log.specs.Reading.{entryAt}
+use Rattle.log.specs.Reading.{entryAt, recordAt}
+use Rattle.log.specs.declared.Body.{Body}
 use Rattle.log.specs.declared.entries.Summed.{Summed}
 use Rattle.log.specs.declared.view.Entry.{Entry}
 
@@ -106,7 +107,7 @@ module _ (b : List ℕ) (first : ℕ) where
   unfolding seen maskAt
   masks-start x = refl
 
-  pub body-is : (m : ℕ) → bodyBy b (bodyAt b (first + m)) (transactionsIn b) (maskAt m 0) (maskAt m 1) ≡ bodyNumber b first m
+  pub body-is : (m : ℕ) → bodyBy (recordAt b (first + m)) (transactionsIn b) (maskAt m 0) (maskAt m 1) ≡ bodyNumber b first m
   unfolding bodyBy bodyNumber readBy writeBy named
   body-is m =
       same (ltb 1 kind) 7 (cond (ltb 31 key) 8 by) (cond (ltb 31 key) 8 is)
@@ -166,44 +167,31 @@ pub sofar-start : (b : List ℕ) (first : ℕ) → Sofar b first 0 0 0
 unfolding firstNumber
 sofar-start b first = record { none = refl; reads-is = masks-start b first 0; writes-is = masks-start b first 1 }
 
-module _ (b : List ℕ) (first m n reads writes x : ℕ) (count : n ≡ transactionsIn b) (s : Sofar b first m reads writes)
-    (e : x ≡ bodyBy b (4 + 4 * n + 4 * (first + m)) n reads writes) where
+module _ (b : List ℕ) (first m n reads writes x : ℕ) (o : Body) (count : n ≡ transactionsIn b) (s : Sofar b first m reads writes)
+    (is : o ≡ recordAt b (first + m)) (e : x ≡ bodyBy o n reads writes) where
   pub sofar-number : x ≡ bodyNumber b first m
   sofar-number =
-      e ∙ ap (λ k. bodyBy b (4 + 4 * k + 4 * (first + m)) k reads writes) count
-      ∙ ap₂ (λ r w. bodyBy b (bodyAt b (first + m)) (transactionsIn b) r w) (s .reads-is) (s .writes-is) ∙ body-is b first m
+      e ∙ ap₂ (λ y k. bodyBy y k reads writes) is count
+      ∙ ap₂ (λ r w. bodyBy (recordAt b (first + m)) (transactionsIn b) r w) (s .reads-is) (s .writes-is) ∙ body-is b first m
 
   pub sofar-stop : (c : ℕ) → m < c → x ≢ 0 → x ≡ firstNumber (bodyNumber b first) c
   sofar-stop c l f =
       sofar-number ∙ sym (first-stop (bodyNumber b first) m c l (s .none) (λ z. f (sofar-number ∙ z)))
 
-  pub sofar-key : x ≡ 0 → byteAt b (4 + 4 * n + 4 * (first + m) + 1) < 32
-  sofar-key z =
-      let g : GoodBody b first m = good-body b first m (sym sofar-number ∙ z) in
-      omega (arith, g .key, ap (λ k. byteAt b (4 + 4 * k + 4 * (first + m) + 1)) count)
+  pub sofar-key : x ≡ 0 → o .key < 32
+  sofar-key z = omega (arith, good-body b first m (sym sofar-number ∙ z) .key, ap (λ (y : Body). y .key) is)
 
-  pub sofar-next : x ≡ 0 → (r w : ℕ)
-      → r ≡ markBy reads (byteAt b (4 + 4 * n + 4 * (first + m))) 0 (byteAt b (4 + 4 * n + 4 * (first + m) + 1))
-      → w ≡ markBy writes (byteAt b (4 + 4 * n + 4 * (first + m))) 1 (byteAt b (4 + 4 * n + 4 * (first + m) + 1))
-      → Sofar b first (m + 1) r w
+  pub sofar-next : x ≡ 0 → (r w : ℕ) → r ≡ markBy reads (o .kind) 0 (o .key) → w ≡ markBy writes (o .kind) 1 (o .key) → Sofar b first (m + 1) r w
   sofar-next z r w p q =
-      let g : GoodBody b first m = good-body b first m (sym sofar-number ∙ z) in
-      let key : keyAt b (first + m) < 32 = omega (arith, g .key) in
+      let key : keyAt b (first + m) < 32 = omega (arith, good-body b first m (sym sofar-number ∙ z) .key) in
       subst (λ i. Sofar b first i r w) (sym (add-one m))
       (record {
         none = first-on (bodyNumber b first) m (s .none) (sym sofar-number ∙ z);
-        reads-is = p ∙ marked reads 0 ∙ ap (λ y. markBy y (kindAt b (first + m)) 0 (keyAt b (first + m))) (s .reads-is) ∙ mask-next b first m 0 key;
-        writes-is = q ∙ marked writes 1 ∙ ap (λ y. markBy y (kindAt b (first + m)) 1 (keyAt b (first + m))) (s .writes-is) ∙ mask-next b first m 1 key;
+        reads-is = p ∙ ap₂ (λ y (k : Body). markBy y (k .kind) 0 (k .key)) (s .reads-is) is ∙ mask-next b first m 0 key;
+        writes-is = q ∙ ap₂ (λ y (k : Body). markBy y (k .kind) 1 (k .key)) (s .writes-is) is ∙ mask-next b first m 1 key;
       })
-    where
-      marked : (y i : ℕ) → markBy y (byteAt b (4 + 4 * n + 4 * (first + m))) i (byteAt b (4 + 4 * n + 4 * (first + m) + 1)) ≡ markBy y (kindAt b (first + m)) i (keyAt b (first + m))
-      marked y i = ap (λ k. markBy y (byteAt b (4 + 4 * k + 4 * (first + m))) i (byteAt b (4 + 4 * k + 4 * (first + m) + 1))) count
 
 -- ---- the loop over the transactions
-
-pub bodies-round : (b : List ℕ) (t x s c : ℕ) → s ≡ startAt b t → c ≡ countAt b t → x ≡ firstNumber (bodyNumber b s) c → x ≡ bodiesNumber b t
-unfolding bodiesNumber
-bodies-round b t x s c p q e = e ∙ ap₂ (λ y z. firstNumber (bodyNumber b y) z) p q
 
 pub first-found : (f : ℕ → ℕ) (n m x : ℕ) → n < m → firstNumber f n ≡ 0 → x ≡ f n → x ≢ 0 → x ≡ firstNumber f m
 first-found f n m x l e p g = p ∙ sym (first-stop f n m l e (λ z. g (p ∙ z)))

@@ -1,14 +1,15 @@
 -- Where a log with the number 0 has its fields. Assumes nothing.
 use Prim.Native.Nat.{ℕ, _+_, _*_, _≤_, _<_}
 use native.Mathlib.Omega.{arith}
-use mathlib.Core.Path.{_≡_, ap, ap₂, sym, _∙_}
+use mathlib.Core.Path.{_≡_, ap, ap₂, _∙_}
 use mathlib.Core.List.{List}
 use lib.ListN.{length}
-use Rattle.model.specs.Log.{byteAt, pairAt, transactionsIn, operationsIn, cabinetAt, countAt, startAt, bodyAt, kindAt, keyAt, argumentAt, loadNumber, operationAt}
-use Rattle.model.proofs.Loaded.{Loaded, loaded, within, body-in, entry-in, body-good, GoodBody}
+use Rattle.model.specs.Log.{byteAt, pairAt, transactionsIn, operationsIn, cabinetAt, countAt, startAt, bodyAt, keyAt, loadNumber, operationAt}
+use Rattle.model.proofs.Loaded.{loaded, within, body-in, entry-in, body-good}
 use Rattle.model.specs.History.{Operation}
-use Rattle.log.specs.Reading.{entryAt, asOperation, InLog, IsOperation}
+use Rattle.log.specs.Reading.{headerAt, entryAt, asOperation, InLog, IsBody, IsOperation}
 use Rattle.log.specs.declared.Body.{Body}
+use Rattle.log.specs.declared.view.Header.{Header}
 use Rattle.log.specs.declared.view.Entry.{Entry}
 
 -- an entry, by the bytes that it is read from
@@ -21,6 +22,31 @@ entry-is b t x e =
   where
     entry : ℕ → ℕ → Entry
     entry m n = record { cabinet = byteAt b (4 + 4 * t); count = m; start = n }
+
+-- the header, by the fields that it is read from
+pub header-is : (b : List ℕ) (x y : ℕ) → x ≡ transactionsIn b → y ≡ operationsIn b → record { transactions = x; operations = y } ≡ headerAt b
+header-is b x y p q = ap₂ header p q
+  where
+    header : ℕ → ℕ → Header
+    header m n = record { transactions = m; operations = n }
+
+pub head-out : (b : List ℕ) (h : Header) → h ≡ headerAt b → (h .transactions ≡ transactionsIn b) × (h .operations ≡ operationsIn b)
+head-out b h e = (ap (λ (y : Header). y .transactions) e, ap (λ (y : Header). y .operations) e)
+
+-- a body, by the bytes that it is read from
+pub body-is-read : (b : List ℕ) (i at kind key argument : ℕ) → at ≡ bodyAt b i
+    → (kind ≡ byteAt b at) × (kind < 256) → (key ≡ byteAt b (at + 1)) × (key < 256) → (argument ≡ pairAt b (at + 2)) × (argument < 65536)
+    → IsBody b i (record { kind = kind; key = key; argument = argument })
+body-is-read b i at kind key argument e x y z =
+    record {
+      is = ap₂ (λ f a. f a) (ap₂ made (x .0 ∙ ap (byteAt b) e) (y .0 ∙ ap (λ j. byteAt b (j + 1)) e)) (z .0 ∙ ap (λ j. pairAt b (j + 2)) e);
+      kind-fits = x .1;
+      key-fits = y .1;
+      argument-fits = z .1;
+    }
+  where
+    made : ℕ → ℕ → ℕ → Body
+    made k x a = record { kind = k; key = x; argument = a }
 
 pub few : (b : List ℕ) → loadNumber b ≡ 0 → transactionsIn b ≤ 32
 few b e = loaded b e .few
@@ -37,21 +63,17 @@ inside-entry b t u = entry-in b (loaded b (u .loads)) t (u .below)
 pub inside-body : (b : List ℕ) (t m : ℕ) → InLog b t → m < countAt b t → 4 + 4 * transactionsIn b + 4 * (startAt b t + m) + 4 ≤ length b
 inside-body b t m u l = body-in b (loaded b (u .loads)) t m (u .below) l
 
-module _ (b : List ℕ) (t m : ℕ) (u : InLog b t) (l : m < countAt b t) where
-  pub is-operation : (n first kind key argument : ℕ) → n ≡ transactionsIn b → first ≡ startAt b t
-      → kind ≡ byteAt b (4 + 4 * n + 4 * (first + m)) → key ≡ byteAt b (4 + 4 * n + 4 * (first + m) + 1)
-      → argument ≡ pairAt b (4 + 4 * n + 4 * (first + m) + 2) → argument < 65536 → IsOperation b t m kind key argument
-  is-operation n first kind key argument p q x y z w =
-      let at : 4 + 4 * n + 4 * (first + m) ≡ bodyAt b (startAt b t + m) = omega (arith, p, q) in
-      let g = body-good b (loaded b (u .loads)) t m (u .below) l in
-      let k : key ≡ keyAt b (startAt b t + m) = y ∙ ap (λ i. byteAt b (i + 1)) at in
-      record {
-        kind-is = x ∙ ap (byteAt b) at;
-        key-is = k;
-        argument-is = z ∙ ap (λ i. pairAt b (i + 2)) at;
-        key-low = omega (arith, g .key, k);
-        argument-fits = w;
-      }
+pub is-operation : (b : List ℕ) (t m : ℕ) (o : Body) → InLog b t → m < countAt b t → IsBody b (startAt b t + m) o → IsOperation b t m (o .kind) (o .key) (o .argument)
+is-operation b t m o u l p =
+    let g = body-good b (loaded b (u .loads)) t m (u .below) l in
+    let k : o .key ≡ keyAt b (startAt b t + m) = ap (λ (y : Body). y .key) (p .is) in
+    record {
+      kind-is = ap (λ (y : Body). y .kind) (p .is);
+      key-is = k;
+      argument-is = ap (λ (y : Body). y .argument) (p .is);
+      key-low = omega (arith, g .key, k);
+      argument-fits = p .argument-fits;
+    }
 
 pub inside-start : (b : List ℕ) (t : ℕ) → InLog b t → startAt b t + countAt b t ≤ 256
 inside-start b t u = omega (arith, within b (loaded b (u .loads)) t (u .below), loaded b (u .loads) .many)

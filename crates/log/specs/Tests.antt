@@ -1,16 +1,17 @@
 -- The tests of entries and bodies as the code makes them: from the sum so far, and from two masks of keys. Laws in proofs/ say that they are the
 -- model's. Assumes nothing.
-use Prim.Native.Nat.{ℕ, _+_, _*_, _^_, _≤_, _<_}
+use Prim.Native.Nat.{ℕ, zero, suc, _+_, _*_, _^_, _/_, _%_, _≤_, _<_}
 use mathlib.Core.Path.{_≡_}
-use lib.ListN.{length}
-use mathlib.Core.Bool.{Bool, true, false, not, cond, _&&_, _||_}
+use lib.ListN.{length, getD}
+use mathlib.Core.Bool.{Bool, cond, _||_}
 use mathlib.Core.List.{List}
 use lib.Dec.{eqb, ltb}
-use lib.Bits.{bitOr}
+use lib.Bits.{bitAnd, bitOr}
 use Rattle.model.specs.Lists.{bit}
 use Rattle.model.specs.History.{start}
-use Rattle.model.specs.Log.{byteAt, pairAt, transactionsIn, operationsIn, countAt, countsBefore, orElse, firstNumber, entryNumber}
+use Rattle.model.specs.Log.{transactionsIn, operationsIn, countAt, startAt, countsBefore, orElse, firstNumber, entryNumber}
 use Rattle.log.specs.Reading.{entryAt}
+use Rattle.log.specs.declared.Body.{Body}
 use Rattle.log.specs.declared.view.Entry.{Entry}
 use Rattle.log.specs.declared.entries.Summed.{Summed}
 
@@ -39,21 +40,39 @@ readBy n reads writes key argument =
 unfoldable pub writeBy : ℕ → ℕ → ℕ
 writeBy writes key = cond (bit writes key) 10 0
 
--- the body at a byte number
-unfoldable pub bodyBy : List ℕ → ℕ → ℕ → ℕ → ℕ → ℕ
-bodyBy b at n reads writes =
-    cond (ltb 1 (byteAt b at)) 7
-    (cond (ltb 31 (byteAt b (at + 1))) 8
-    (cond (eqb (byteAt b at) 0) (readBy n reads writes (byteAt b (at + 1)) (pairAt b (at + 2))) (writeBy writes (byteAt b (at + 1)))))
+-- a body, after reads and writes of these keys
+unfoldable pub bodyBy : Body → ℕ → ℕ → ℕ → ℕ
+bodyBy o n reads writes =
+    cond (ltb 1 (o .kind)) 7
+    (cond (ltb 31 (o .key)) 8
+    (cond (eqb (o .kind) 0) (readBy n reads writes (o .key) (o .argument)) (writeBy writes (o .key))))
 
 -- the mask with the key, where the kind is the one that is marked
 unfoldable pub markBy : ℕ → ℕ → ℕ → ℕ → ℕ
 markBy mask kind which key = cond (eqb kind which) (bitOr mask (2 ^ key)) mask
 
+-- a body after reads and writes of these keys, as bits of which none is set where it is good
+unfoldable pub faultsBy : Body → ℕ → ℕ → ℕ → ℕ
+faultsBy o n reads writes =
+    let key = o .key % 32 in
+    let read = markBy 0 (o .kind) 0 key in
+    bitOr (bitOr (bitOr (o .kind / 2) (o .key / 32)) (bitOr (bitAnd reads read) (bitAnd writes (bitOr 0 (2 ^ key))))) (cond (named n (o .argument)) 0 read)
+
 -- what the bodies' test relies on: the entries are good, and the log has as many bodies as they count
 pub record GoodEntries (b : List ℕ) (n : ℕ) : Type 0 where
   pub few : n ≤ 32
+  pub many : operationsIn b ≤ 256
   pub count : n ≡ transactionsIn b
   pub long : length b ≡ 4 + 4 * n + 4 * operationsIn b
   pub entries : firstNumber (entryNumber b) n ≡ 0
   pub sum : countsBefore b n ≡ operationsIn b
+
+-- how many of the first n transactions start at body i
+unfoldable pub startsAt : List ℕ → ℕ → ℕ → ℕ
+startsAt b zero i = 0
+startsAt b (suc t) i = startsAt b t i + cond (eqb (startAt b t) i) 1 0
+
+-- the counts of all bodies as a table, which has one place more: an empty transaction may start behind the last body
+pub record Begun (b : List ℕ) (n : ℕ) (w : List ℕ) : Type 0 where
+  pub size : length w ≡ 257
+  pub each : (i : ℕ) → i < 257 → getD w i 0 ≡ startsAt b n i

@@ -1,16 +1,20 @@
-// Load's tests of the bodies, body by body: 7 to 11. The keys that a transaction has read and written so far are two masks.
+// Load's tests of the bodies: 7 to 11. The keys that a transaction has read and written so far are two masks.
+// `all_good` asks in one loop over all bodies whether each is good, with no branch on what a body is; where it says no, `first_refused` goes body by body
+// and finds the number.
 ghost use mathlib.Core.Path.{_≡_};
-ghost use Prim.Native.Nat.{_+_, _*_, _<_, _≤_};
-ghost use lib.ListN.{length};
-ghost use Rattle.model.specs.Log.{transactionsIn, firstNumber, bodyNumber, bodiesNumber};
-ghost use Rattle.log.specs.Tests.{named, readBy, writeBy, bodyBy, markBy, GoodEntries};
-use crate::fields::pair;
+ghost use mathlib.Core.Bool.{cond};
+ghost use Prim.Native.Nat.{_<_};
+ghost use lib.Dec.{T, eqb};
+ghost use Rattle.model.specs.Log.{operationsIn, firstNumber, bodiesNumber};
+ghost use Rattle.log.specs.Tests.{named, readBy, writeBy, bodyBy, faultsBy, markBy, GoodEntries, Begun};
+use crate::Body;
+use crate::view::body_of;
 use crate::view::entry_of;
 use graph::has;
 use graph::with;
 
 // The mask with the key, where the body is of the kind that is marked.
-fn mark(mask: u32, kind: u8, which: u8, key: u32) -> u32
+fn mark(mask: u32, kind: usize, which: usize, key: u32) -> u32
     requires { ⌜ key < 32 ⌝ }
     ensures { λ r. ⌜ r ≡ markBy mask kind which key ⌝ }
 {
@@ -21,11 +25,10 @@ fn mark(mask: u32, kind: u8, which: u8, key: u32) -> u32
 fn names(argument: usize, n: usize) -> bool
     ensures { λ r. ⌜ r ≡ named n argument ⌝ }
 {
-    if argument < n {
-        return true;
-    }
-    argument == 65535
+    (argument < n) | (argument == 65535)
 }
+
+// ---- body by body
 
 // The number of a read: 9, 10, 11 or 0.
 fn read(argument: usize, n: usize, key: u32, reads: u32, writes: u32) -> u8
@@ -49,61 +52,133 @@ fn write(key: u32, writes: u32) -> u8
     if has(writes, key) { 10 } else { 0 }
 }
 
-// The number of the body at a byte number: 7 to 11, or 0.
-fn body(log: &[u8], at: usize, n: usize, reads: u32, writes: u32) -> u8
-    requires { ⌜ at + 4 ≤ length (now log) ⌝ }
-    ensures { λ r. ⌜ r ≡ bodyBy (now (log .entry)) at n reads writes ⌝ }
+// The number of a body: 7 to 11, or 0.
+fn number(o: Body, n: usize, reads: u32, writes: u32) -> u8
+    ensures { λ r. ⌜ r ≡ bodyBy o n reads writes ⌝ }
 {
-    let kind = log[at];
-    let key = log[at + 1];
-    if kind > 1 {
+    if o.kind > 1 {
         return 7;
     }
-    if key > 31 {
+    if o.key > 31 {
         return 8;
     }
-    if kind == 0 {
-        return read(pair(log, at + 2), n, key as u32, reads, writes);
+    if o.kind == 0 {
+        return read(o.argument, n, o.key as u32, reads, writes);
     }
-    write(key as u32, writes)
+    write(o.key as u32, writes)
 }
 
-// The number of the first body that is refused, of a transaction's `count` bodies from number `first` on, or 0.
-fn of_transaction(log: &[u8], n: usize, first: usize, count: usize) -> u8
-    requires { ⌜ (n ≡ transactionsIn (now log)) × (4 + 4 * n + 4 * (first + count) ≤ length (now log)) ⌝ }
-    ensures { λ r. ⌜ r ≡ firstNumber (bodyNumber (now (log .entry)) first) count ⌝ }
+// The number of the first body of transaction t that is refused, or 0.
+fn of_transaction(log: &[u8], n: usize, t: usize) -> u8
+    requires { ⌜ GoodEntries (now log) n × (t < n) ⌝ }
+    ensures { λ r. ⌜ r ≡ bodiesNumber (now (log .entry)) t ⌝ }
 {
+    let count = entry_of(log, t).count as usize;
     let mut reads: u32 = 0;
     let mut writes: u32 = 0;
     let mut m: usize = 0;
     while m < count {
-        let at = 4 + 4 * n + 4 * (first + m);
-        let number = body(log, at, n, reads, writes);
-        if number != 0 {
-            return number;
+        let o = body_of(log, t, m);
+        let x = number(o, n, reads, writes);
+        if x != 0 {
+            return x;
         }
-        let kind = log[at];
-        let key = log[at + 1] as u32;
-        reads = mark(reads, kind, 0, key);
-        writes = mark(writes, kind, 1, key);
+        let key = o.key as u32;
+        reads = mark(reads, o.kind, 0, key);
+        writes = mark(writes, o.kind, 1, key);
         m += 1;
     }
     0
 }
 
-// The same over all transactions, whose entries are good.
-pub fn test(log: &[u8], n: usize) -> u8
+// The same over all transactions.
+fn first_refused(log: &[u8], n: usize) -> u8
     requires { ⌜ GoodEntries (now log) n ⌝ }
     ensures { λ r. ⌜ r ≡ firstNumber (bodiesNumber (now (log .entry))) n ⌝ }
 {
     let mut t: usize = 0;
     while t < n {
-        let e = entry_of(log, t);
-        let number = of_transaction(log, n, e.start as usize, e.count as usize);
-        if number != 0 {
-            return number;
+        let x = of_transaction(log, n, t);
+        if x != 0 {
+            return x;
         }
         t += 1;
     }
     0
+}
+
+// ---- all bodies at once
+
+// A read's bit where its argument names nothing, else 0.
+fn unnamed(argument: usize, n: usize, read: u32) -> u32
+    ensures { λ r. ⌜ r ≡ cond (named n argument) 0 read ⌝ }
+{
+    if names(argument, n) { 0 } else { read }
+}
+
+// Bits of which one is set where a body is refused, with no branch.
+fn faults(o: Body, n: usize, reads: u32, writes: u32) -> usize
+    ensures { λ r. ⌜ r ≡ faultsBy o n reads writes ⌝ }
+{
+    let key = (o.key % 32) as u32;
+    let read = mark(0, o.kind, 0, key);
+    let before = (reads & read) | (writes & with(0, key));
+    let wrong = unnamed(o.argument, n, read);
+    (o.kind / 2) | (o.key / 32) | before as usize | wrong as usize
+}
+
+// How many transactions start at each body, and behind the last one.
+fn begins(log: &[u8], n: usize) -> [u8; 257]
+    requires { ⌜ GoodEntries (now log) n ⌝ }
+    ensures { λ r. ⌜ Begun (now (log .entry)) n r ⌝ }
+{
+    let mut out = [0u8; 257];
+    let mut t: usize = 0;
+    while t < n {
+        let start = entry_of(log, t).start as usize;
+        out[start] = out[start] + 1;
+        t += 1;
+    }
+    out
+}
+
+// The mask, or none where a transaction starts.
+fn kept(mask: u32, starts: u8) -> u32
+    ensures { λ r. ⌜ r ≡ cond (eqb starts 0) mask 0 ⌝ }
+{
+    if starts == 0 { mask } else { 0 }
+}
+
+// Whether all bodies are good. Only 'yes' has to be right: where it says no, the bodies are tested one by one.
+fn all_good(log: &[u8], n: usize, count: usize) -> bool
+    requires { ⌜ GoodEntries (now log) n × (count ≡ operationsIn (now log)) ⌝ }
+    ensures { λ r. ⌜ (T r → firstNumber (bodiesNumber (now (log .entry))) n ≡ 0) ⌝ }
+{
+    let starts = begins(log, n);
+    let mut reads: u32 = 0;
+    let mut writes: u32 = 0;
+    let mut bad: usize = 0;
+    let mut i: usize = 0;
+    while i < count {
+        let o = body_of(log, 0, i);
+        let key = (o.key % 32) as u32;
+        let read = kept(reads, starts[i]);
+        let written = kept(writes, starts[i]);
+        bad = bad | faults(o, n, read, written);
+        reads = mark(read, o.kind, 0, key);
+        writes = mark(written, o.kind, 1, key);
+        i += 1;
+    }
+    bad == 0
+}
+
+// The number of the first body that is refused, or 0, in a log of n transactions and `count` bodies.
+pub(crate) fn test(log: &[u8], n: usize, count: usize) -> u8
+    requires { ⌜ GoodEntries (now log) n × (count ≡ operationsIn (now log)) ⌝ }
+    ensures { λ r. ⌜ r ≡ firstNumber (bodiesNumber (now (log .entry))) n ⌝ }
+{
+    if all_good(log, n, count) {
+        return 0;
+    }
+    first_refused(log, n)
 }

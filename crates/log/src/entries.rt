@@ -8,9 +8,9 @@ use crate::view::Entry;
 use crate::view::entry_of;
 
 // The number of the first entry that is refused, or 0, and the sum of the counts.
-pub struct Summed {
-    pub number: u8,
-    pub sum: usize,
+pub(crate) struct Summed {
+    pub(crate) number: u8,
+    pub(crate) sum: usize,
 }
 
 // The first number that is not 0.
@@ -42,7 +42,7 @@ fn next(log: &[u8], t: usize, c: Summed) -> Summed
 }
 
 // The first n entries.
-pub fn test(log: &[u8], n: usize) -> Summed
+pub(crate) fn test(log: &[u8], n: usize) -> Summed
     requires { ⌜ (n ≤ 32) × (4 + 4 * n ≤ length (now log)) ⌝ }
     ensures { λ r. ⌜ r ≡ summedTo (now (log .entry)) n ⌝ }
 {

@@ -11,7 +11,7 @@ fn wide(x: u8) -> usize
 }
 
 // A byte of the log.
-pub fn byte(log: &[u8], at: usize) -> usize
+pub(crate) fn byte(log: &[u8], at: usize) -> usize
     requires { ⌜ at < length (now log) ⌝ }
     ensures { λ r. ⌜ (r ≡ byteAt (now (log .entry)) at) × (r < 256) ⌝ }
 {
@@ -19,7 +19,7 @@ pub fn byte(log: &[u8], at: usize) -> usize
 }
 
 // A two-byte field has the low byte first.
-pub fn pair(log: &[u8], at: usize) -> usize
+pub(crate) fn pair(log: &[u8], at: usize) -> usize
     requires { ⌜ at + 1 < length (now log) ⌝ }
     ensures { λ r. ⌜ (r ≡ pairAt (now (log .entry)) at) × (r < 65536) ⌝ }
 {

@@ -1,17 +1,17 @@
 // Logs of any bytes: the number that Load gives, and readers of a log that it takes.
-// `fields` reads bytes and two-byte fields, `view` the entries of the contents; `entries` and `bodies` make Load's tests of them.
+// `fields` reads bytes and two-byte fields; all of a log is read through `view`; `entries` and `bodies` make Load's tests.
 ghost use mathlib.Core.Path.{_≡_};
 ghost use Prim.Native.Nat.{_+_, _<_, _≤_};
 ghost use Rattle.model.specs.Log.{transactionsIn, cabinetAt, countAt, startAt, loadNumber};
 ghost use Rattle.log.specs.Reading.{InLog, IsOperation};
-use fields::byte;
-use fields::pair;
+use view::body_of;
 use view::entry_of;
+use view::header_of;
 
-pub mod bodies;
-pub mod entries;
-pub mod fields;
-pub mod view;
+mod bodies;
+mod entries;
+mod fields;
+mod view;
 
 // The number that Load gives: 0 where the log is taken, else the first of 1 to 11 that applies.
 pub fn number(log: &[u8]) -> u8
@@ -20,8 +20,9 @@ pub fn number(log: &[u8]) -> u8
     if log.len() < 4 {
         return 1;
     }
-    let t = pair(log, 0);
-    let n = pair(log, 2);
+    let h = header_of(log);
+    let t = h.transactions as usize;
+    let n = h.operations as usize;
     if t > 32 {
         return 2;
     }
@@ -38,7 +39,7 @@ pub fn number(log: &[u8]) -> u8
     if c.sum != n {
         return 6;
     }
-    bodies::test(log, t)
+    bodies::test(log, t, n)
 }
 
 // ---- readers of a log that Load takes
@@ -48,7 +49,7 @@ pub fn transactions(log: &[u8]) -> usize
     requires { ⌜ loadNumber (now log) ≡ 0 ⌝ }
     ensures { λ r. ⌜ (r ≡ transactionsIn (now (log .entry))) × (r ≤ 32) ⌝ }
 {
-    pair(log, 0)
+    header_of(log).transactions as usize
 }
 
 // The cabinet of transaction t.
@@ -87,15 +88,5 @@ pub fn operation(log: &[u8], t: usize, m: usize) -> Body
     requires { ⌜ InLog (now log) t × (m < countAt (now log) t) ⌝ }
     ensures { λ r. ⌜ IsOperation (now (log .entry)) t m (r .kind) (r .key) (r .argument) ⌝ }
 {
-    let n = pair(log, 0);
-    let first = start(log, t);
-    let at = 4 + 4 * n + 4 * (first + m);
-    let kind = byte(log, at);
-    let key = byte(log, at + 1);
-    let argument = pair(log, at + 2);
-    Body {
-        kind,
-        key,
-        argument,
-    }
+    body_of(log, t, m)
 }

@@ -3,7 +3,6 @@
 use checker::Case;
 use checker::Stage;
 use samples::check_number;
-use samples::fresh;
 use samples::lines::byte;
 use samples::lines::end;
 use samples::lines::number;
@@ -12,7 +11,6 @@ use samples::lines::value;
 use samples::lines::yes_no;
 use samples::load_number;
 use samples::loaded;
-use samples::reply_number;
 use samples::same_case;
 use samples::with_byte;
 
@@ -56,7 +54,7 @@ fn order_line(c: Case) {
     let mut out = [9u8; 2];
     let a = c.order(&mut out);
     let r = a.reply;
-    number(reply_number(r));
+    number(r.number() as u64);
     byte(out[0]);
     byte(out[1]);
     let after = a.case;
@@ -68,7 +66,7 @@ fn table_line(c: Case) {
     let mut out = [9u16; 32];
     let a = c.table(&mut out);
     let r = a.reply;
-    number(reply_number(r));
+    number(r.number() as u64);
     value(out[0]);
     value(out[1]);
     let after = a.case;
@@ -133,12 +131,12 @@ fn lists() {
     let a = c.order(&mut short);
     let r = a.reply;
     text(b"order, 1 place; 3 places:");
-    number(reply_number(r));
+    number(r.number() as u64);
     byte(short[0]);
     let mut long = [9u8; 3];
     let b = c.order(&mut long);
     let s = b.reply;
-    number(reply_number(s));
+    number(s.number() as u64);
     byte(long[0]);
     byte(long[1]);
     byte(long[2]);
@@ -151,12 +149,12 @@ fn tables() {
     let a = c.table(&mut short);
     let r = a.reply;
     text(b"table, 31 places; 33 places:");
-    number(reply_number(r));
+    number(r.number() as u64);
     value(short[30]);
     let mut long = [9u16; 33];
     let b = c.table(&mut long);
     let s = b.reply;
-    number(reply_number(s));
+    number(s.number() as u64);
     value(long[0]);
     value(long[31]);
     value(long[32]);
@@ -170,7 +168,7 @@ fn main() {
     lists();
     tables();
     text(b"clear gives the fresh case of each kind:");
-    yes_no(same_case(damaged(Stage::Ordered).clear(), fresh()));
-    yes_no(same_case(made(Stage::NoOrder, 1157, 1, 2, 3).clear(), fresh()));
+    yes_no(same_case(damaged(Stage::Ordered).clear(), Case::fresh()));
+    yes_no(same_case(made(Stage::NoOrder, 1157, 1, 2, 3).clear(), Case::fresh()));
     end();
 }

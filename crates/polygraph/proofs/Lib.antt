@@ -1,6 +1,7 @@
 pub mod Marks
 pub mod ReadTable
 pub mod Filling
-pub mod RowLaws
+pub mod Decoding
+pub mod Cabinets
 pub mod RowWords
-pub mod Chained
+pub mod ReadEdges

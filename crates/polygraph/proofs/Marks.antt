@@ -1,192 +1,134 @@
--- Tables of marks: a loop over the operations of a transaction puts its bit into words; what the bits are in the end. Assumes nothing.
-use Prim.Native.Nat.{ℕ, zero, suc, _+_, _*_, _^_, _≤_, _<_}
+-- Tables of sets: words into which a loop puts sets, and what the bits are in the end. Assumes nothing.
+use Prim.Native.Nat.{ℕ, _+_, _^_, _≤_, _<_}
 use native.Mathlib.Omega.{arith}
 use native.Mathlib.Numerals.{add-one}
-use mathlib.Core.Path.{_≡_, refl, sym, ap, ap₂, subst, _∙_}
-use mathlib.Core.Logic.{_⊎_, inl, inr, ⊎-elim, _≢_}
-use mathlib.Core.Bool.{Bool, true, false, not, cond, _&&_, _||_, or-false, or-assoc, and-or-distrib-left}
-use mathlib.Core.List.{List, [], _∷_, _++_, map}
-use lib.Dec.{T, eqb, ltb, eqb→eq, ltb→lt, nltb→le}
+use mathlib.Core.Path.{_≡_, sym, ap, ap₂, subst, _∙_}
+use mathlib.Core.Logic.{⊎-elim, _≢_}
+use mathlib.Core.Bool.{Bool, true, false, not, _&&_, _||_, or-false, or-assoc}
+use mathlib.Core.List.{List, [], _∷_, map}
+use lib.Dec.{T, eqb, ltb, ltb→lt, nltb→le}
 use lib.Bits.{bitOr, or-lt}
 use lib.Pow.{pow-lt, pow-pos}
-use lib.ListN.{length, getD, set, replicate, length-set, List·getD-eq-default}
-use lib.Seq.{getD-set-same, getD-set-other, ext-getD}
-use borrow.Author.Tests.{lt-ltb, le-ltb}
+use lib.ListN.{length, getD, set, take, length-set, List·getD-eq-default}
+use lib.Seq.{getD-set-same, getD-set-other, take-suc, ext-getD}
 use Rattle.model.specs.Lists.{any, fold, upTo, bit, wordOf, All}
-use Rattle.model.specs.History.{Operation, operationsOf}
-use Rattle.model.specs.Log.{transactionsIn, countAt, historyOf}
-use Rattle.model.proofs.Basics.{same?, decide, true-eq, false-eq, eq-eqb, ne-eqb, iff-eq, clash, eqb-comm}
-use Rattle.model.proofs.Words.{length-upTo, getD-upTo, word-lt}
-use Rattle.model.proofs.Masks.{bit-or, bit-one, bit-none, same-bits}
-use Rattle.model.proofs.Loaded.{operationOf, operations-at}
+use Rattle.model.proofs.Basics.{same?, decide, not-intro, true-eq, false-eq, eq-eqb, ne-eqb}
+use Rattle.model.proofs.Words.{bit-word, word-lt, word-small, length-upTo, getD-upTo}
 use Rattle.model.proofs.Loops.{map-snoc, fold-snoc}
+use Rattle.model.proofs.Masks.{bit-or, bit-one, bit-none, same-bits}
 use Rattle.graph.specs.Masks.{putIf}
-use Rattle.polygraph.specs.Tables.{markStep}
+use Rattle.polygraph.specs.Tables.{putAt}
 
--- ---- the loop
+-- ---- one set alone
 
-module _ (index : Operation → ℕ) (test : Operation → Bool) (t : ℕ) (f : ℕ → Operation) where
-  abbrev step : List ℕ → Operation → List ℕ
-  step = markStep index test t
+pub single-bit : (t s : ℕ) (b : Bool) → bit (putIf 0 t b) s ≡ (b && eqb s t)
+unfolding putIf
+single-bit t s true = bit-or 0 (2 ^ t) s ∙ ap₂ (λ x y. x || y) (bit-none s) (bit-one t s)
+single-bit t s false = bit-none s
 
-  pub marks-next : (w out : List ℕ) (m i v : ℕ) (b : Bool) → out ≡ fold step w (map f (upTo m)) → i ≡ index (f m) → b ≡ test (f m)
-      → v ≡ putIf (getD out i 0) t b → set out i v ≡ fold step w (map f (upTo (m + 1)))
-  unfolding markStep
-  marks-next w out m i v b e p q r =
-      ap (set out i) r
-      ∙ ap₂ (λ j (c : Bool). set out j (putIf (getD out j 0) t c)) p q
-      ∙ ap (λ x. step x (f m)) e
-      ∙ sym (fold-snoc step w (map f (upTo m)) (f m))
-      ∙ ap (fold step w) (sym (map-snoc f (upTo m) m))
-      ∙ ap (λ n. fold step w (map f (upTo n))) (sym (add-one m))
+pub single-small : (t : ℕ) (b : Bool) → t < 32 → putIf 0 t b < 2 ^ 32
+unfolding putIf
+single-small t true l = or-lt 32 0 (2 ^ t) (pow-pos 32) (pow-lt l)
+single-small t false l = pow-pos 32
 
--- all operations of t
-pub marks-end : (index : Operation → ℕ) (test : Operation → Bool) (b : List ℕ) (t : ℕ) (w out : List ℕ) (m : ℕ) → t < transactionsIn b → m ≡ countAt b t
-    → out ≡ fold (markStep index test t) w (map (operationOf b t) (upTo m)) → out ≡ fold (markStep index test t) w (operationsOf (historyOf b) t)
-marks-end index test b t w out m l e p =
-    p ∙ ap (λ n. fold (markStep index test t) w (map (operationOf b t) (upTo n))) e ∙ ap (fold (markStep index test t) w) (sym (operations-at b t l))
+-- a store of a word with a set in it
+pub put-is : (w : List ℕ) (i j x v : ℕ) → i ≡ j → v ≡ bitOr (getD w i 0) x → set w i v ≡ putAt w j x
+unfolding putAt
+put-is w i j x v p q = ap (set w i) q ∙ ap (λ k. set w k (bitOr (getD w k 0) x)) p
 
--- ---- the bits
+-- ---- a table of n words of 32 bits, with the bits that f says
 
-module _ (index : Operation → ℕ) (test : Operation → Bool) (t : ℕ) where
-  put-bit : (m s : ℕ) (b : Bool) → bit (putIf m t b) s ≡ (bit m s || (eqb s t && b))
-  unfolding putIf
-  put-bit m s true = bit-or m (2 ^ t) s ∙ ap (λ x. bit m s || x) (bit-one t s ∙ sym (and-true (eqb s t)))
-    where
-      and-true : (x : Bool) → (x && true) ≡ x
-      and-true true = refl
-      and-true false = refl
-  put-bit m s false = sym (ap (λ x. bit m s || x) (and-false (eqb s t)) ∙ or-false (bit m s))
-    where
-      and-false : (x : Bool) → (x && false) ≡ false
-      and-false true = refl
-      and-false false = refl
-
-  put-lt : (m : ℕ) (b : Bool) → t < 32 → m < 2 ^ 32 → putIf m t b < 2 ^ 32
-  unfolding putIf
-  put-lt m true l k = or-lt 32 m (2 ^ t) k (pow-lt l)
-  put-lt m false l k = k
-
-  mark-bit : (w : List ℕ) (o : Operation) (i s : ℕ) → index o < length w
-      → bit (getD (markStep index test t w o) i 0) s ≡ (bit (getD w i 0) s || (eqb s t && (test o && eqb (index o) i)))
-  unfolding markStep
-  mark-bit w o i s l =
-      ⊎-elim
-      (λ (e : index o ≡ i).
-      ap (λ x. bit x s) (ap (λ j. getD (set w (index o) (putIf (getD w (index o) 0) t (test o))) j 0) (sym e) ∙ getD-set-same w (index o) (putIf (getD w (index o) 0) t (test o)) 0 l)
-      ∙ put-bit (getD w (index o) 0) s (test o)
-      ∙ ap₂ (λ x y. bit x s || (eqb s t && y)) (ap (λ j. getD w j 0) e) (sym (here (test o) (eqb (index o) i) (true-eq (eqb (index o) i) (eq-eqb e)))))
-      (λ (e : index o ≢ i).
-      ap (λ x. bit x s) (getD-set-other w (index o) i (putIf (getD w (index o) 0) t (test o)) 0 (λ q. e (sym q)))
-      ∙ sym (ap (λ y. bit (getD w i 0) s || y) (none (eqb s t) (test o) (eqb (index o) i) (false-eq (eqb (index o) i) (ne-eqb e))) ∙ or-false (bit (getD w i 0) s)))
-      (same? (index o) i)
-    where
-      here : (a b : Bool) → b ≡ true → (a && b) ≡ a
-      here true b e = e
-      here false b e = refl
-
-      none : (a b c : Bool) → c ≡ false → (a && (b && c)) ≡ false
-      none true true c e = e
-      none true false c e = refl
-      none false b c e = refl
-
-  mark-length : (w : List ℕ) (o : Operation) → length (markStep index test t w o) ≡ length w
-  unfolding markStep
-  mark-length w o = length-set w (index o) (putIf (getD w (index o) 0) t (test o))
-
-  mark-small : (w : List ℕ) (o : Operation) → t < 32 → index o < length w → ((i : ℕ) → getD w i 0 < 2 ^ 32) → (i : ℕ) → getD (markStep index test t w o) i 0 < 2 ^ 32
-  unfolding markStep
-  mark-small w o lt l f i =
-      ⊎-elim
-      (λ (e : index o ≡ i).
-      subst (λ x. x < 2 ^ 32) (sym (ap (λ j. getD (set w (index o) (putIf (getD w (index o) 0) t (test o))) j 0) (sym e) ∙ getD-set-same w (index o) (putIf (getD w (index o) 0) t (test o)) 0 l))
-      (put-lt (getD w (index o) 0) (test o) lt (f (index o))))
-      (λ (e : index o ≢ i). subst (λ x. x < 2 ^ 32) (sym (getD-set-other w (index o) i (putIf (getD w (index o) 0) t (test o)) 0 (λ q. e (sym q)))) (f i))
-      (same? (index o) i)
-
-  pub fold-length : (w : List ℕ) (os : List Operation) → length (fold (markStep index test t) w os) ≡ length w
-  fold-length w [] = refl
-  fold-length w (o ∷ os) = fold-length (markStep index test t w o) os ∙ mark-length w o
-
-  pub fold-small : (w : List ℕ) (os : List Operation) (n : ℕ) → t < 32 → length w ≡ n → All (λ o. index o < n) os → ((i : ℕ) → getD w i 0 < 2 ^ 32)
-      → (i : ℕ) → getD (fold (markStep index test t) w os) i 0 < 2 ^ 32
-  fold-small w [] n lt e a f i = f i
-  fold-small w (o ∷ os) n lt e a f i =
-      fold-small (markStep index test t w o) os n lt (mark-length w o ∙ e) (a .1) (mark-small w o lt (subst (λ x. index o < x) (sym e) (a .0)) f) i
-
-  pub fold-bit : (w : List ℕ) (os : List Operation) (n : ℕ) → length w ≡ n → All (λ o. index o < n) os → (i s : ℕ)
-      → bit (getD (fold (markStep index test t) w os) i 0) s ≡ (bit (getD w i 0) s || (eqb s t && any (λ o. test o && eqb (index o) i) os))
-  fold-bit w [] n e a i s = sym (ap (λ x. bit (getD w i 0) s || x) (none (eqb s t)) ∙ or-false (bit (getD w i 0) s))
-    where
-      none : (x : Bool) → (x && false) ≡ false
-      none true = refl
-      none false = refl
-  fold-bit w (o ∷ os) n e a i s =
-      fold-bit (markStep index test t w o) os n (mark-length w o ∙ e) (a .1) i s
-      ∙ ap (λ x. x || (eqb s t && any (λ o. test o && eqb (index o) i) os)) (mark-bit w o i s (subst (λ x. index o < x) (sym e) (a .0)))
-      ∙ join (bit (getD w i 0) s) (eqb s t) (test o && eqb (index o) i) (any (λ o. test o && eqb (index o) i) os)
-    where
-      join : (a b c d : Bool) → ((a || (b && c)) || (b && d)) ≡ (a || (b && (c || d)))
-      join true b c d = refl
-      join false true c d = refl
-      join false false c d = refl
-
--- ---- the loop over the transactions
-
--- a table of n words after the transactions below t
-pub record Table (n : ℕ) (f : ℕ → ℕ → Bool) (t : ℕ) (w : List ℕ) : Type 0 where
+pub record Sets (n : ℕ) (f : ℕ → ℕ → Bool) (w : List ℕ) : Type 0 where
   pub long : length w ≡ n
   pub small : (i : ℕ) → getD w i 0 < 2 ^ 32
-  pub bits : (i s : ℕ) → i < n → bit (getD w i 0) s ≡ (ltb s t && f i s)
+  pub bits : (i s : ℕ) → i < n → bit (getD w i 0) s ≡ f i s
 
-pub table-start : (n : ℕ) (f : ℕ → ℕ → Bool) (w : List ℕ) → length w ≡ n → ((i : ℕ) → getD w i 0 ≡ 0) → Table n f 0 w
-table-start n f w e z =
-    record {
-      long = e;
-      small = λ i. subst (λ x. x < 2 ^ 32) (sym (z i)) (pow-pos 32);
-      bits = λ i s l. ap (λ x. bit x s) (z i) ∙ bit-none s ∙ sym (ap (λ b. b && f i s) (le-ltb s 0 (omega arith)));
-    }
+module _ (n : ℕ) where
+  pub sets-on : (f g : ℕ → ℕ → Bool) (w : List ℕ) → ((i s : ℕ) → i < n → f i s ≡ g i s) → Sets n f w → Sets n g w
+  sets-on f g w e x = record { long = x .long; small = x .small; bits = λ i s l. x .bits i s l ∙ e i s l }
 
-pub table-next : (n : ℕ) (f : ℕ → ℕ → Bool) (t : ℕ) (w r : List ℕ) (index : Operation → ℕ) (test : Operation → Bool) (os : List Operation) → t < 32
-    → Table n f t w → r ≡ fold (markStep index test t) w os → All (λ o. index o < n) os
-    → ((i : ℕ) → i < n → any (λ o. test o && eqb (index o) i) os ≡ f i t) → Table n f (t + 1) r
-table-next n f t w r index test os lt tb e a g =
-    subst (Table n f (t + 1)) (sym e)
-    (record {
-      long = fold-length index test t w os ∙ tb .long;
-      small = fold-small index test t w os n lt (tb .long) a (tb .small);
-      bits = λ i s l.
-          fold-bit index test t w os n (tb .long) a i s
-          ∙ ap₂ (λ x y. x || (eqb s t && y)) (tb .bits i s l) (g i l)
-          ∙ join s (f i s) (f i t) (λ q. ap (f i) q);
-    })
-  where
-    join : (s : ℕ) (a b : Bool) → (s ≡ t → a ≡ b) → ((ltb s t && a) || (eqb s t && b)) ≡ (ltb s (t + 1) && a)
-    join s a b q =
-        ⊎-elim
-        (λ (p : s ≡ t).
-        ap₂ (λ x y. (x && a) || (y && b)) (le-ltb s t (omega arith)) (true-eq (eqb s t) (eq-eqb p))
-        ∙ sym (q p) ∙ sym (ap (λ x. x && a) (lt-ltb s (t + 1) (omega arith))))
-        (λ (p : s ≢ t).
-        ⊎-elim
-        (λ (k : T (ltb s t)).
-        let k' = ltb→lt s t k in
-        ap₂ (λ x y. (x && a) || (y && b)) (lt-ltb s t k') (false-eq (eqb s t) (ne-eqb p)) ∙ or-false a ∙ sym (ap (λ x. x && a) (lt-ltb s (t + 1) (omega arith))))
-        (λ (k : T (not (ltb s t))).
-        let k' = nltb→le s t k in
-        ap₂ (λ x y. (x && a) || (y && b)) (le-ltb s t k') (false-eq (eqb s t) (ne-eqb p)) ∙ sym (ap (λ x. x && a) (le-ltb s (t + 1) (omega arith))))
-        (decide (ltb s t)))
-        (same? s t)
+  pub sets-none : (w : List ℕ) → length w ≡ n → ((i : ℕ) → getD w i 0 ≡ 0) → Sets n (λ i s. false) w
+  sets-none w e z =
+      record {
+        long = e;
+        small = λ i. subst (λ x. x < 2 ^ 32) (sym (z i)) (pow-pos 32);
+        bits = λ i s l. ap (λ x. bit x s) (z i) ∙ bit-none s;
+      }
 
-pub table-end : (n : ℕ) (f : ℕ → ℕ → Bool) (t : ℕ) (w : List ℕ) → Table n f t w → ((i s : ℕ) → t ≤ s → f i s ≡ false) → w ≡ map (λ i. wordOf 32 (f i)) (upTo n)
-table-end n f t w tb past =
-    ext-getD 0 w (map (λ i. wordOf 32 (f i)) (upTo n)) (tb .long ∙ sym (length-upTo (λ i. wordOf 32 (f i)) n))
-    (λ i l.
-    let k : i < n = omega (arith, tb .long) in
-    same-bits 32 (getD w i 0) (f i) (tb .small i)
-    (λ s h. tb .bits i s k ∙ cut (ltb s t) (f i s) (λ b. past i s (nltb→le s t b)))
-    ∙ sym (getD-upTo (λ i. wordOf 32 (f i)) 0 n i k))
-  where
-    cut : (a b : Bool) → (T (not a) → b ≡ false) → (a && b) ≡ b
-    cut true b f = refl
-    cut false b f = sym (f tt)
+  pub sets-put : (f : ℕ → ℕ → Bool) (w : List ℕ) (i x : ℕ) → i < n → x < 2 ^ 32 → Sets n f w → Sets n (λ j s. f j s || (eqb j i && bit x s)) (putAt w i x)
+  unfolding putAt
+  sets-put f w i x l k y =
+      record {
+        long = length-set w i (bitOr (getD w i 0) x) ∙ y .long;
+        small = λ j.
+            ⊎-elim (λ (e : j ≡ i). subst (λ z. z < 2 ^ 32) (sym (here j e)) (or-lt 32 (getD w i 0) x (y .small i) k))
+            (λ (e : j ≢ i). subst (λ z. z < 2 ^ 32) (sym (there j e)) (y .small j)) (same? j i);
+        bits = λ j s m.
+            ⊎-elim
+            (λ (e : j ≡ i).
+            ap (λ z. bit z s) (here j e) ∙ bit-or (getD w i 0) x s
+            ∙ ap₂ (λ a b. a || b) (ap (λ z. bit (getD w z 0) s) (sym e) ∙ y .bits j s m) (sym (ap (λ b. b && bit x s) (true-eq (eqb j i) (eq-eqb e)))))
+            (λ (e : j ≢ i).
+            ap (λ z. bit z s) (there j e) ∙ y .bits j s m ∙ sym (ap (λ b. f j s || (b && bit x s)) (false-eq (eqb j i) (ne-eqb e)) ∙ or-false (f j s)))
+            (same? j i);
+      }
+    where
+      here : (j : ℕ) → j ≡ i → getD (set w i (bitOr (getD w i 0) x)) j 0 ≡ bitOr (getD w i 0) x
+      here j e = ap (λ z. getD (set w i (bitOr (getD w i 0) x)) z 0) e ∙ getD-set-same w i (bitOr (getD w i 0) x) 0 (omega (arith, y .long))
+
+      there : (j : ℕ) → j ≢ i → getD (set w i (bitOr (getD w i 0) x)) j 0 ≡ getD w j 0
+      there j e = getD-set-other w i j (bitOr (getD w i 0) x) 0 e
+
+  -- the table is the one that has these bits
+  pub sets-end : (f g : ℕ → ℕ → Bool) (w : List ℕ) → Sets n f w → ((i s : ℕ) → i < n → s < 32 → f i s ≡ g i s) → w ≡ map (λ i. wordOf 32 (g i)) (upTo n)
+  sets-end f g w x e =
+      ext-getD 0 w (map (λ i. wordOf 32 (g i)) (upTo n)) (x .long ∙ sym (length-upTo (λ i. wordOf 32 (g i)) n))
+      (λ i l.
+      let k : i < n = omega (arith, x .long) in
+      same-bits 32 (getD w i 0) (g i) (x .small i) (λ s m. x .bits i s k ∙ e i s k m) ∙ sym (getD-upTo (λ i. wordOf 32 (g i)) 0 n i k))
+
+  -- such a table, as the definitions have it
+  pub sets-of : (g : ℕ → ℕ → Bool) → ((i s : ℕ) → 32 ≤ s → g i s ≡ false) → Sets n g (map (λ i. wordOf 32 (g i)) (upTo n))
+  sets-of g past =
+      record {
+        long = length-upTo (λ i. wordOf 32 (g i)) n;
+        small = λ i.
+            ⊎-elim (λ (l : T (ltb i n)). subst (λ x. x < 2 ^ 32) (sym (at i (ltb→lt i n l))) (word-lt 32 (g i)))
+            (λ (l : T (not (ltb i n))).
+            subst (λ x. x < 2 ^ 32) (sym (List·getD-eq-default (map (λ i. wordOf 32 (g i)) (upTo n)) 0 {n = i} (omega (arith, nltb→le i n l, length-upTo (λ i. wordOf 32 (g i)) n)))) (pow-pos 32))
+            (decide (ltb i n));
+        bits = λ i s l.
+            ap (λ x. bit x s) (at i l)
+            ∙ ⊎-elim (λ (k : T (ltb s 32)). bit-word 32 (g i) s (ltb→lt s 32 k))
+            (λ (k : T (not (ltb s 32))).
+            let far = nltb→le s 32 k in
+            false-eq (bit (wordOf 32 (g i)) s) (not-intro (bit (wordOf 32 (g i)) s) (λ t. omega (arith, word-small 32 (g i) s t))) ∙ sym (past i s far))
+            (decide (ltb s 32));
+      }
+    where
+      at : (i : ℕ) → i < n → getD (map (λ i. wordOf 32 (g i)) (upTo n)) i 0 ≡ wordOf 32 (g i)
+      at i l = getD-upTo (λ i. wordOf 32 (g i)) 0 n i l
+
+  -- ---- a loop over a list, each step of which puts what p says
+
+  module _ {A : Type 0} (step : List ℕ → A → List ℕ) (p : A → ℕ → ℕ → Bool) where
+    abbrev pub Puts : A → Type 0
+    Puts x = (f : ℕ → ℕ → Bool) (w : List ℕ) → Sets n f w → Sets n (λ i s. f i s || p x i s) (step w x)
+
+    pub sets-fold : (f : ℕ → ℕ → Bool) (w : List ℕ) (xs : List A) → All Puts xs → Sets n f w → Sets n (λ i s. f i s || any (λ x. p x i s) xs) (fold step w xs)
+    sets-fold f w [] a y = sets-on f (λ i s. f i s || false) w (λ i s l. sym (or-false (f i s))) y
+    sets-fold f w (x ∷ xs) a y =
+        sets-on (λ i s. (f i s || p x i s) || any (λ x. p x i s) xs) (λ i s. f i s || (p x i s || any (λ x. p x i s) xs)) (fold step (step w x) xs)
+        (λ i s l. or-assoc (f i s) (p x i s) (any (λ x. p x i s) xs)) (sets-fold (λ i s. f i s || p x i s) (step w x) xs (a .1) (a .0 f w y))
+
+-- one round more of a loop that is a fold
+pub fold-next : {A : Type 0} (step : List ℕ → A → List ℕ) (f : ℕ → A) (w out r : List ℕ) (m : ℕ) → out ≡ fold step w (map f (upTo m))
+    → r ≡ step out (f m) → r ≡ fold step w (map f (upTo (m + 1)))
+fold-next step f w out r m e p =
+    p ∙ ap (λ x. step x (f m)) e ∙ sym (fold-snoc step w (map f (upTo m)) (f m)) ∙ ap (fold step w) (sym (map-snoc f (upTo m) m))
+    ∙ ap (λ n. fold step w (map f (upTo n))) (sym (add-one m))
+
+pub fold-take : {S : Type 0} (step : S → ℕ → S) (s out r : S) (xs : List ℕ) (i : ℕ) → i < length xs → out ≡ fold step s (take i xs) → r ≡ step out (getD xs i 0)
+    → r ≡ fold step s (take (i + 1) xs)
+fold-take step s out r xs i l e p =
+    p ∙ ap (λ x. step x (getD xs i 0)) e ∙ sym (fold-snoc step s (take i xs) (getD xs i 0)) ∙ ap (fold step s) (sym (take-suc xs i 0 l)) ∙ ap (λ n. fold step s (take n xs)) (sym (add-one i))

@@ -1,102 +1,154 @@
-// Known edges and constraints of a loaded log.
+// The tables of a loaded log, its reads as numbers, and its known edges from these.
+// What a read names is picked from values at hand: a window's reads are of all kinds, and a branch that is guessed wrong costs more than the work.
 ghost use mathlib.Core.Path.{_≡_};
-ghost use mathlib.Core.Bool.{Bool, cond};
+ghost use mathlib.Core.Bool.{cond};
+ghost use mathlib.Core.List.{List};
 ghost use lib.Dec.{eqb};
-ghost use Prim.Native.Nat.{_+_, _*_, _<_, _≤_};
-ghost use lib.ListN.{length, getD};
-ghost use Rattle.model.specs.Lists.{bit, fold};
+ghost use Prim.Native.Nat.{ℕ, _+_, _*_, _<_, _≤_};
+ghost use lib.ListN.{length, getD, replicate};
+ghost use Rattle.model.specs.Lists.{bit};
 ghost use Rattle.model.specs.Polygraph.{rows};
-ghost use Rattle.model.specs.History.{Operation, isRead, isWrite, operationsOf};
-ghost use Rattle.model.specs.Log.{transactionsIn, loadNumber, historyOf};
+ghost use Rattle.model.specs.Log.{transactionsIn, startAt, loadNumber, historyOf};
 ghost use Rattle.log.specs.Reading.{InLog};
-ghost use Rattle.polygraph.specs.Edges.{nextBy, successorsBy, keyPart, keyWord, chainPart, chainAt, chainWord, cabinetWord, rowBy, rowOf, Tabled};
+ghost use Rattle.polygraph.specs.Tables.{writersOf, packedAs, readMarksOf, slotBy, slotIn, markStep, DecodedOne, Decoded};
+ghost use Rattle.polygraph.specs.Edges.{nextBy, successorsBy, cabinetRows, ownEdge, readStep};
 use graph::mask::has;
+use graph::mask::lowest;
 use graph::mask::put_if;
+use graph::mask::with;
 use graph::mask::without;
-ghost use Rattle.polygraph.specs.Tables.{writersOf, readMarksOf, markStep, slotBy, slotOf};
 
-// The writes of transaction t go into the table.
-fn mark_writes(log: &[u8], t: usize, out: &mut [u32; 32])
-    requires { ⌜ InLog (now log) t × (t < 32) ⌝ }
-    ensures { λ _. ⌜ now (out .exit) ≡ fold (markStep (λ (o : Operation). o .key) isWrite t) (now (out .entry)) (operationsOf (historyOf (now (log .entry))) t) ⌝ }
+// Words of the table of reads: word key * 32 + u, below START, has the good readers of the key from u; word START + key has those
+// that read the key at start; word BAD has those with a bad read. The table has MARKS words.
+const START: u32 = 1024;
+
+const BAD: u32 = 1056;
+
+pub const MARKS: usize = 1057;
+
+// What a read of the starting value names.
+const FROM_START: u32 = 65535;
+
+// Of two numbers the first, if so.
+fn pick(so: bool, a: u32, b: u32) -> u32
+    ensures { λ r. ⌜ r ≡ cond so a b ⌝ }
 {
-    let count = log::count(log, t);
-    let mut m: usize = 0;
-    while m < count {
-        let o = log::operation(log, t, m);
-        let key = o.key;
-        out[key] = put_if(out[key], t as u32, o.kind == 1);
-        m += 1;
-    }
+    if so { a } else { b }
 }
 
-// Bit t of word k: t writes k.
+// ---- decoding
+
+// A read by t as one number.
+fn packed(t: usize, key: usize, argument: usize) -> u32
+    requires { ⌜ (t < 32) × (key < 32) × (argument < 65536) ⌝ }
+    ensures { λ r. ⌜ r ≡ packedAs t key argument ⌝ }
+{
+    ((key * 256 + t) * 65536 + argument) as u32
+}
+
+// A count of reads after one more operation.
+fn counted(count: usize, kind: usize) -> usize
+    requires { ⌜ count < 256 ⌝ }
+    ensures { λ r. ⌜ r ≡ cond (eqb kind 0) (count + 1) count ⌝ }
+{
+    if kind == 0 { count + 1 } else { count }
+}
+
+// The operations of transaction t: its writes go into the table, its reads behind those before, of which there are `from`.
+fn decode_transaction(
+    log: &[u8],
+    t: usize,
+    writers: &mut [u32; 32],
+    reads: &mut [u32; 256],
+    from: usize,
+) -> usize
+    requires { ⌜ InLog (now log) t × (t < 32) × (from ≤ startAt (now log) t) × (length (now reads) ≡ 256) ⌝ }
+    ensures { λ r. ⌜ DecodedOne (now (log .entry)) t from (now (writers .entry)) (now (reads .entry)) (now (writers .exit)) (now (reads .exit)) r ⌝ }
+{
+    let n = log::count(log, t);
+    let mut count = from;
+    let mut m: usize = 0;
+    while m < n {
+        let o = log::operation(log, t, m);
+        let key = o.key;
+        let mark = put_if(0, t as u32, o.kind == 1);
+        writers[key] = writers[key] | mark;
+        reads[count] = packed(t, key, o.argument);
+        count = counted(count, o.kind);
+        m += 1;
+    }
+    count
+}
+
+// Bit t of word k of the writers: t writes k. The reads, in the order of the log; how many there are.
+pub fn decode(log: &[u8], writers: &mut [u32; 32], reads: &mut [u32; 256]) -> usize
+    requires { ⌜ (loadNumber (now log) ≡ 0) × (now writers ≡ replicate 32 0) × (length (now reads) ≡ 256) ⌝ }
+    ensures { λ r. ⌜ Decoded (now (log .entry)) (now (writers .exit)) (now (reads .exit)) r ⌝ }
+{
+    let n = log::transactions(log);
+    let mut count: usize = 0;
+    let mut t: usize = 0;
+    while t < n {
+        count = decode_transaction(log, t, writers, reads, count);
+        t += 1;
+    }
+    count
+}
+
+// The writers alone.
 pub fn writers(log: &[u8]) -> [u32; 32]
     requires { ⌜ loadNumber (now log) ≡ 0 ⌝ }
     ensures { λ r. ⌜ r ≡ writersOf (historyOf (now (log .entry))) ⌝ }
 {
     let mut out = [0u32; 32];
-    let n = log::transactions(log);
-    let mut t: usize = 0;
-    while t < n {
-        mark_writes(log, t, &mut out);
-        t += 1;
-    }
+    let mut reads = [0u32; 256];
+    decode(log, &mut out, &mut reads);
     out
 }
 
-// The word of the read table for a read of a key with an argument, by t, where w are the key's writers.
-fn slot(w: u32, t: usize, key: usize, argument: usize) -> usize
+// ---- the table of reads
+
+// The word for a read of a key with an argument, by t, where w are the key's writers.
+fn slot(w: u32, t: u32, key: u32, argument: u32) -> u32
     requires { ⌜ key < 32 ⌝ }
     ensures { λ r. ⌜ (r ≡ slotBy w t key argument) × (r < 1057) ⌝ }
 {
-    if argument == 65535 {
-        return 1024 + key;
-    }
-    if argument >= 32 {
-        return 1056;
-    }
-    if argument == t {
-        return 1056;
-    }
-    if has(w, argument as u32) {
-        key * 32 + argument
-    } else {
-        1056
+    let good = (argument < 32) & (argument != t) & has(w, argument % 32);
+    let named = pick(good, key * 32 + argument % 32, BAD);
+    pick(argument == FROM_START, START + key, named)
+}
+
+// The word for a read as a number.
+fn slot_of(read: u32, writers: &[u32; 32]) -> u32
+    ensures { λ r. ⌜ (r ≡ slotIn (now (writers .entry)) read) × (r < 1057) ⌝ }
+{
+    let key = read / 16777216 % 32;
+    let t = read / 65536 % 32;
+    slot(writers[key as usize], t, key, read % 65536)
+}
+
+// A read goes into the table.
+fn mark_read(read: u32, writers: &[u32; 32], out: &mut [u32; MARKS])
+    ensures { λ _. ⌜ now (out .exit) ≡ markStep (now (writers .entry)) (now (out .entry)) read ⌝ }
+{
+    let t = read / 65536 % 32;
+    let at = slot_of(read, writers) as usize;
+    out[at] = with(out[at], t);
+}
+
+// The reads by what they name.
+pub fn read_marks(reads: &[u32; 256], count: usize, writers: &[u32; 32], out: &mut [u32; MARKS])
+    requires { ⌜ (count ≤ 256) × (now out ≡ replicate 1057 0) ⌝ }
+    ensures { λ _. ⌜ ((b : List ℕ) → Decoded b (now (writers .entry)) (now (reads .entry)) count → now (out .exit) ≡ readMarksOf (historyOf b)) ⌝ }
+{
+    let mut i: usize = 0;
+    while i < count {
+        mark_read(reads[i], writers, out);
+        i += 1;
     }
 }
 
-// The reads of transaction t go into the table.
-fn mark_reads(log: &[u8], t: usize, writers: [u32; 32], out: &mut [u32; 1057])
-    requires { ⌜ InLog (now log) t × (t < 32) ⌝ }
-    ensures { λ _. ⌜ now (out .exit) ≡ fold (markStep (slotOf writers t) isRead t) (now (out .entry)) (operationsOf (historyOf (now (log .entry))) t) ⌝ }
-{
-    let count = log::count(log, t);
-    let mut m: usize = 0;
-    while m < count {
-        let o = log::operation(log, t, m);
-        let key = o.key;
-        let at = slot(writers[key], t, key, o.argument);
-        out[at] = put_if(out[at], t as u32, o.kind == 0);
-        m += 1;
-    }
-}
-
-// The reads by what they name (readMark): below 1024, word key * 32 + u has the good readers of the key from u; from 1024 on, word
-// 1024 + key has the transactions that read the key at start; word 1056 has those with a bad read.
-pub fn read_marks(log: &[u8], writers: [u32; 32]) -> [u32; 1057]
-    requires { ⌜ (loadNumber (now log) ≡ 0) × (writers ≡ writersOf (historyOf (now log))) ⌝ }
-    ensures { λ r. ⌜ r ≡ readMarksOf (historyOf (now (log .entry))) ⌝ }
-{
-    let mut out = [0u32; 1057];
-    let n = log::transactions(log);
-    let mut t: usize = 0;
-    while t < n {
-        mark_reads(log, t, writers, &mut out);
-        t += 1;
-    }
-    out
-}
+// ---- successors
 
 // The successor of a write, from its good readers and the writers of the key, or n.
 fn next_of(readers: u32, writers: u32, n: u32) -> u32
@@ -109,153 +161,61 @@ fn next_of(readers: u32, writers: u32, n: u32) -> u32
     u32::trailing_zeros(both)
 }
 
-// The successors of all writes: word key * 32 + u.
-pub fn successors(n: u32, writers: [u32; 32], marks: &[u32; 1057]) -> [u32; 1024]
-    ensures { λ r. ⌜ r ≡ successorsBy n writers (now (marks .entry)) ⌝ }
+// The successor of the write of u on key k, or n: word k * 32 + u of the successors of all writes.
+pub fn next_at(n: u32, writers: &[u32; 32], marks: &[u32; MARKS], k: usize, u: usize) -> u32
+    requires { ⌜ (k < 32) × (u < 32) ⌝ }
+    ensures { λ r. ⌜ r ≡ getD (successorsBy n (now (writers .entry)) (now (marks .entry))) (k * 32 + u) 0 ⌝ }
 {
-    let mut out = [0u32; 1024];
-    let mut i: usize = 0;
-    while i < 1024 {
-        out[i] = next_of(marks[i], writers[i / 32], n);
-        i += 1;
-    }
-    out
+    next_of(marks[k * 32 + u], writers[k], n)
 }
 
-// Edges from u by one key.
-fn key_part(u: u32, readers: u32, starters: u32, writers: u32) -> u32
-    requires { ⌜ u < 32 ⌝ }
-    ensures { λ r. ⌜ r ≡ keyPart u readers starters writers ⌝ }
-{
-    if has(starters, u) {
-        readers | without(writers, u)
-    } else {
-        readers
-    }
-}
+// ---- known edges
 
-// Edges from u by the reads of all keys.
-fn key_word(u: usize, writers: [u32; 32], marks: &[u32; 1057]) -> u32
-    requires { ⌜ u < 32 ⌝ }
-    ensures { λ r. ⌜ r ≡ keyWord writers (now (marks .entry)) u ⌝ }
+// The edges from each transaction to the next of the same cabinet.
+fn add_cabinets(log: &[u8], n: usize, out: &mut [u32; 32])
+    requires { ⌜ (loadNumber (now log) ≡ 0) × (n ≡ transactionsIn (now log)) × (now out ≡ replicate 32 0) ⌝ }
+    ensures { λ _. ⌜ now (out .exit) ≡ cabinetRows (historyOf (now (log .entry))) ⌝ }
 {
-    let mut word: u32 = 0;
-    let mut k: usize = 0;
-    while k < 32 {
-        word = word | key_part(u as u32, marks[k * 32 + u], marks[1024 + k], writers[k]);
-        k += 1;
-    }
-    word
-}
-
-// The edge from a reader u of a write to the write's successor s.
-fn chain_part(u: u32, n: u32, readers: u32, s: u32) -> u32
-    requires { ⌜ (u < 32) × (n ≤ 32) ⌝ }
-    ensures { λ r. ⌜ r ≡ chainPart u n readers s ⌝ }
-{
-    if !has(readers, u) {
-        return 0;
-    }
-    if s >= n {
-        return 0;
-    }
-    if s == u { 0 } else { 1 << s }
-}
-
-// The edge from u that word `at` of the tables gives, where it is a word of good readers.
-fn chain_at(u: u32, n: u32, marks: &[u32; 1057], nexts: &[u32; 1024], at: usize) -> u32
-    requires { ⌜ (u < 32) × (n ≤ 32) ⌝ }
-    ensures { λ r. ⌜ r ≡ chainAt u n (now (marks .entry)) (now (nexts .entry)) at ⌝ }
-{
-    if at >= 1024 {
-        return 0;
-    }
-    chain_part(u, n, marks[at], nexts[at])
-}
-
-// Edges from u to the successors of the writes that it reads: the words that its own operations name are all that have it.
-fn chain_word(
-    log: &[u8],
-    n: usize,
-    u: usize,
-    writers: [u32; 32],
-    marks: &[u32; 1057],
-    nexts: &[u32; 1024],
-) -> u32
-    requires { ⌜ Tabled (now log) n writers (now marks) (now nexts) × (u < n) ⌝ }
-    ensures { λ r. ⌜ r ≡ chainWord n (now (marks .entry)) (now (nexts .entry)) u ⌝ }
-{
-    let count = log::count(log, u);
-    let mut word: u32 = 0;
-    let mut m: usize = 0;
-    while m < count {
-        let o = log::operation(log, u, m);
-        let key = o.key;
-        let at = slot(writers[key], u, key, o.argument);
-        word = word | chain_at(u as u32, n as u32, marks, nexts, at);
-        m += 1;
-    }
-    word
-}
-
-// The edge from u to the next of the same cabinet.
-fn cabinet_word(log: &[u8], n: usize, u: usize) -> u32
-    requires { ⌜ InLog (now log) u × (n ≡ transactionsIn (now log)) × (n ≤ 32) ⌝ }
-    ensures { λ r. ⌜ r ≡ cabinetWord (historyOf (now (log .entry))) u ⌝ }
-{
-    let own = log::cabinet(log, u);
-    let mut v: usize = u + 1;
-    while v < n {
-        if log::cabinet(log, v) == own {
-            return put_if(0, v as u32, true);
-        }
-        v += 1;
-    }
-    0
-}
-
-// The chained edges, in encoding 2 alone.
-fn chain_row(
-    log: &[u8],
-    n: usize,
-    encoding: u8,
-    u: usize,
-    writers: [u32; 32],
-    marks: &[u32; 1057],
-    nexts: &[u32; 1024],
-) -> u32
-    requires { ⌜ Tabled (now log) n writers (now marks) (now nexts) × (u < n) ⌝ }
-    ensures { λ r. ⌜ r ≡ cond (eqb encoding 2) (chainWord n (now (marks .entry)) (now (nexts .entry)) u) 0 ⌝ }
-{
-    if encoding == 2 {
-        chain_word(log, n, u, writers, marks, nexts)
-    } else {
-        0
+    let mut last = [32usize; 16];
+    let mut t: usize = 0;
+    while t < n {
+        let c = log::cabinet(log, t);
+        let before = last[c];
+        let edge = put_if(0, t as u32, before < 32);
+        out[before % 32] = out[before % 32] | edge;
+        last[c] = t;
+        t += 1;
     }
 }
 
-// The edges from u: row u of the known edges.
-fn row(
-    log: &[u8],
-    n: usize,
-    encoding: u8,
-    u: usize,
-    writers: [u32; 32],
-    marks: &[u32; 1057],
-    nexts: &[u32; 1024],
-) -> u32
-    requires { ⌜ Tabled (now log) n writers (now marks) (now nexts) × (u < 32) ⌝ }
-    ensures { λ r. ⌜ r ≡ rowOf (historyOf (now (log .entry))) encoding u ⌝ }
+// The edges from t by a read of its own, whose word in the table is `at`: w are the key's writers, readers those of the write that it names.
+fn own_edges(at: u32, t: u32, w: u32, readers: u32, chained: bool) -> u32
+    requires { ⌜ t < 32 ⌝ }
+    ensures { λ r. ⌜ ((v : ℕ) → bit r v ≡ ownEdge at t w readers chained v) ⌝ }
 {
-    if u >= n {
-        return 0;
-    }
-    let bad = marks[1056];
-    let cabinet = cabinet_word(log, n, u);
-    let keys = key_word(u, writers, marks);
-    let own = put_if(0, u as u32, has(bad, u as u32));
-    let chain = chain_row(log, n, encoding, u, writers, marks, nexts);
-    (cabinet | keys) | (own | chain)
+    let next = without(lowest(readers & w), t);
+    let other = pick(at == BAD, with(0, t), without(w, t));
+    pick(at < START, pick(chained, next, 0), other)
+}
+
+// The edges of a read.
+fn add_read(
+    read: u32,
+    chained: bool,
+    writers: &[u32; 32],
+    marks: &[u32; MARKS],
+    out: &mut [u32; 32],
+)
+    ensures { λ _. ⌜ now (out .exit) ≡ readStep chained (now (writers .entry)) (now (marks .entry)) (now (out .entry)) read ⌝ }
+{
+    let key = (read / 16777216 % 32) as usize;
+    let t = read / 65536 % 32;
+    let at = slot_of(read, writers);
+    let from = (at % 32) as usize;
+    let edge = put_if(0, t, at < START);
+    let own = own_edges(at, t, writers[key], marks[at as usize], chained);
+    out[from] = out[from] | edge;
+    out[t as usize] = out[t as usize] | own;
 }
 
 // The known edges of a log in an encoding: 32 row words.
@@ -263,18 +223,20 @@ pub fn known(
     log: &[u8],
     n: usize,
     encoding: u8,
-    writers: [u32; 32],
-    marks: &[u32; 1057],
-    nexts: &[u32; 1024],
+    reads: &[u32; 256],
+    count: usize,
+    writers: &[u32; 32],
+    marks: &[u32; MARKS],
 ) -> [u32; 32]
-    requires { ⌜ Tabled (now log) n writers (now marks) (now nexts) ⌝ }
+    requires { ⌜ Decoded (now log) (now writers) (now reads) count × (n ≡ transactionsIn (now log)) × (now marks ≡ readMarksOf (historyOf (now log))) ⌝ }
     ensures { λ r. ⌜ r ≡ rows (historyOf (now (log .entry))) encoding ⌝ }
 {
     let mut out = [0u32; 32];
-    let mut u: usize = 0;
-    while u < 32 {
-        out[u] = row(log, n, encoding, u, writers, marks, nexts);
-        u += 1;
+    add_cabinets(log, n, &mut out);
+    let mut i: usize = 0;
+    while i < count {
+        add_read(reads[i], encoding == 2, writers, marks, &mut out);
+        i += 1;
     }
     out
 }

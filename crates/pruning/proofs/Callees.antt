@@ -3,14 +3,14 @@
 --     closure-says, side-says, extend-says, begin-says, after-says     `graph::closure`, `graph::add_side`, `graph::extend`, `begin` and `after`, by value
 --     skim-left        `skim`, which the list is lent to, beside the closed rows
 -- Assumes `Given`, and that the callee meets its contract.
-use Rattle.walk.specs.Prelude.{_≡_, refl, _∙_, ℕ, _<_, _≤_, _^_, arith, List, [], _∷_, URA, fullShare, named, w64, Val, vint, vptr, SProp, ent, sep, guard, emp, exE, snd∗, Lft, Share, GName, Fml, flft, Memory, Routine, Heap, Calls, Atoms, sem, Fun, fact, Given, ‵, raw, some, _⊛_, _$_, _∵_, !, qed, move, keep, drop, split, join, pick, show, check, fsplit, fjoin, feqL, frame, done, FmC, MutSlice, finally, heard, nothing, says, tripleOf, Contract, Triple, ensured, lasts}
+use Rattle.walk.proofs.Prelude.{_≡_, refl, _∙_, ℕ, _<_, _≤_, _^_, arith, List, [], _∷_, URA, fullShare, named, w64, Val, vint, vptr, SProp, ent, sep, guard, emp, exE, snd∗, Lft, Share, GName, Fml, flft, Memory, Routine, Heap, Calls, Atoms, sem, Fun, fact, Given, ‵, raw, some, _⊛_, _$_, _∵_, !, qed, move, keep, drop, split, join, pick, show, check, fsplit, fjoin, feqL, frame, done, FmC, MutSlice, finally, heard, nothing, says, tripleOf, Contract, Triple, ensured, lasts}
 use denote.Ref.{RefT, ShrRef}
-use Rattle.walk.specs.ByValue.{Says, Result, plainly, result-says}
-use Rattle.walk.specs.Both.{LeftBoth, result-both}
-use Rattle.walk.specs.Kind.{u8K, u32K, usizeK, wordsK, vals, Good, have}
-use Rattle.walk.specs.Lending.{Answer}
-use Rattle.walk.specs.Sharing.{Shares, through, result-shares}
-use Rattle.walk.specs.Slices.{lent, counted}
+use Rattle.walk.proofs.ByValue.{Says, Result, plainly, result-says}
+use Rattle.walk.proofs.Both.{LeftBoth, result-both}
+use Rattle.walk.proofs.Kind.{u8K, u32K, usizeK, wordsK, vals, Good, have}
+use Rattle.walk.proofs.Lending.{Answer}
+use Rattle.walk.proofs.Sharing.{Shares, through, result-shares}
+use Rattle.walk.proofs.Slices.{lent, counted}
 use lib.ListN.{length}
 use Rattle.model.specs.declared.Constraint.{Constraint}
 use Rattle.model.specs.Polygraph.{withSide, reach}
@@ -22,10 +22,10 @@ use Rattle.graph.proofs.add_side as side
 use Rattle.graph.proofs.add_side.Symbol.{name as #graph·add-side}
 use Rattle.graph.proofs.extend as extend
 use Rattle.graph.proofs.extend.Symbol.{name as #graph·extend}
-use Rattle.pruning.specs.declared.Verdict.{Verdict}
+use Rattle.pruning.specs.declared.Resolution.{Resolution}
 use Rattle.pruning.specs.declared.Place.{Place}
 use Rattle.pruning.specs.declared.Hit.{Hit}
-use Rattle.pruning.specs.Passes.{Placed, Aims, verdictOf, firstPlace, nextPlace, Skimmed}
+use Rattle.pruning.specs.Passes.{LowTargets, Aims, resolutionOf, firstPlace, nextPlace, Skimmed}
 use Rattle.pruning.proofs.Data.{verdictK, placeK, hitK}
 use Rattle.pruning.proofs.begin as begin
 use Rattle.pruning.proofs.begin.Symbol.{name as #pruning·begin}
@@ -37,8 +37,8 @@ use Rattle.pruning.proofs.judge as judge
 use Rattle.pruning.proofs.judge.Symbol.{name as #pruning·judge}
 
 -- what `judge` says of its result
-abbrev pub Judged : List ℕ → Constraint → Verdict → Type 0
-Judged closed c w = (g : List ℕ) → closed ≡ reach g → w ≡ verdictOf g c
+abbrev pub Judged : List ℕ → Constraint → Resolution → Type 0
+Judged closed c w = (w .to < 32) × ((g : List ℕ) → closed ≡ reach g → w ≡ resolutionOf g c)
 
 -- and `extend` of its own
 abbrev pub Extended : List ℕ → ℕ → ℕ → List ℕ → Type 0
@@ -71,7 +71,7 @@ module _ {M : Type 1} (𝓤 : URA M) (H : Heap 𝓤) (A : Atoms 𝓤) (mem : Mem
   Skim = tripleOf 𝓤 H A skim.signature (skim.spec 𝓤 H A mem run)
 
   module _ (W : Given 𝓤 H A) (C : Calls 𝓤 H) (fm : FmC 𝓤 H (W .laws) C) where
-    pub judge-shares : Triple 𝓤 (C #pruning·judge) Judge → (κ : Lft) (q : Share) (r : RefT (List ℕ)) (c : Constraint) → Good conK c → Placed c
+    pub judge-shares : Triple 𝓤 (C #pruning·judge) Judge → (κ : Lft) (q : Share) (r : RefT (List ℕ)) (c : Constraint) → Good conK c → LowTargets c
         → ent 𝓤 (sep 𝓤 (sem 𝓤 H A (ShrRef (named 0) κ (wordsK 32 .row) .own r (vptr (r .ptr .0) (r .ptr .1) ∷ []))) (A .lft κ q))
         (C #pruning·judge (vptr (r .ptr .0) (r .ptr .1) ∷ conK .val c ∷ []) (Shares 𝓤 H A (Result (verdictK .row) (Judged (r .now) c)) κ q))
     judge-shares known κ q r c ok placed =

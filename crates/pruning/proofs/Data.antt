@@ -1,19 +1,20 @@
 -- The crate's types of plain data, as kinds (`Rattle.walk`'s `Kind`), and what is known of their fields.
---     verdictK, hitK, placeK, prunedK.        of-verdict, of-hit, of-place     the numbers of a value that a call returned fit.        verdict-ok, hit-ok, place-ok, pruned-ok      a value whose numbers fit is good
+--     verdictK, hitK, placeK, prunedK.        of-resolution, of-hit, of-place     the numbers of a value that a call returned fit.        resolution-ok, hit-ok, place-ok, pruned-ok      a value whose numbers fit is good
 -- Assumes nothing.
-use mathlib.Core.Path.{_≡_, refl, sym, subst}
+use mathlib.Core.Path.{refl, sym, subst}
 use Prim.Native.Nat.{ℕ, _<_, _^_}
+use mathlib.Core.Bool.{Bool}
 use mathlib.Core.List.{List, [], _∷_, map-id}
 use mir.Val.{Val}
 use denote.Laws.{Is}
 use denote.Struct.Laws as LL
-use Rattle.walk.specs.Kind.{Kind, of-declared, wordsK, Good, good}
-use Rattle.pruning.specs.declared.Verdict.{Verdict}
+use Rattle.walk.proofs.Kind.{Kind, of-declared, wordsK, Good, good}
+use Rattle.pruning.specs.declared.Resolution.{Resolution}
 use Rattle.pruning.specs.declared.Place.{Place}
 use Rattle.pruning.specs.declared.Hit.{Hit}
 use Rattle.pruning.specs.declared.Pruned.{Pruned}
-use Rattle.pruning.proofs.Verdict as J
-use Rattle.pruning.proofs.Verdict.Laws as J′
+use Rattle.pruning.proofs.Resolution as J
+use Rattle.pruning.proofs.Resolution.Laws as J′
 use Rattle.pruning.proofs.Place as P
 use Rattle.pruning.proofs.Place.Laws as P′
 use Rattle.pruning.proofs.Hit as T
@@ -33,18 +34,18 @@ hitK = of-declared T.the-type T′.the-laws T′.lowers T′.the-plain T′.the-
 abbrev pub prunedK : Kind
 prunedK = of-declared D.the-type D′.the-laws D′.lowers D′.the-plain D′.the-copy
 
-pub of-verdict : (w : Verdict) (v : Val) → Is (verdictK .row) w (v ∷ []) → (w .from < 2 ^ 32) × (w .to < 2 ^ 32)
-of-verdict w v is = let x = LL.owed J.the-type J′.the-laws w (v ∷ []) is in (x .1 .0 .1, x .1 .1 .0 .1)
+pub of-resolution : (w : Resolution) (v : Val) → Is (verdictK .row) w (v ∷ []) → (w .from < 2 ^ 32) × (w .to < 2 ^ 32)
+of-resolution w v is = let x = LL.owed J.the-type J′.the-laws w (v ∷ []) is in (x .1 .0 .1, x .1 .1 .0 .1)
 
-pub verdict-ok : (d f t : ℕ) → d < 2 ^ 64 → f < 2 ^ 32 → t < 2 ^ 32 → Good verdictK (record { drops = d; from = f; to = t })
-verdict-ok d f t hd hf ht = good verdictK _ _ (LL.owes J.the-type J′.the-laws (record { drops = d; from = f; to = t }) ((refl, hd), ((refl, hf), ((refl, ht), tt))))
+pub resolution-ok : (d : Bool) (f t : ℕ) → f < 2 ^ 32 → t < 2 ^ 32 → Good verdictK (record { drops = d; from = f; to = t })
+resolution-ok d f t hf ht = good verdictK _ _ (LL.owes J.the-type J′.the-laws (record { drops = d; from = f; to = t }) (refl, ((refl, hf), ((refl, ht), tt))))
 
--- all four numbers of a place fit, of a hit the numbers and the side
-pub of-place : (w : Place) (v : Val) → Is (placeK .row) w (v ∷ []) → (w .at < 2 ^ 64) × (w .kept < 2 ^ 64) × (w .end < 2 ^ 64) × (w .on < 2 ^ 64)
-of-place w v is = let x = LL.owed P.the-type P′.the-laws w (v ∷ []) is in (x .0 .1, x .1 .0 .1, x .1 .1 .0 .1, x .1 .1 .1 .0 .1)
+-- the numbers of a place fit, of a hit the numbers and the side
+pub of-place : (w : Place) (v : Val) → Is (placeK .row) w (v ∷ []) → (w .at < 2 ^ 64) × (w .kept < 2 ^ 64) × (w .end < 2 ^ 64)
+of-place w v is = let x = LL.owed P.the-type P′.the-laws w (v ∷ []) is in (x .0 .1, x .1 .0 .1, x .1 .1 .0 .1)
 
-pub place-ok : (p : Place) → p .at < 2 ^ 64 → p .kept < 2 ^ 64 → p .end < 2 ^ 64 → p .on < 2 ^ 64 → Good placeK p
-place-ok p a k e n = good placeK _ _ (LL.owes P.the-type P′.the-laws p ((refl, a), ((refl, k), ((refl, e), ((refl, n), tt)))))
+pub place-ok : (p : Place) → p .at < 2 ^ 64 → p .kept < 2 ^ 64 → p .end < 2 ^ 64 → Good placeK p
+place-ok p a k e = good placeK _ _ (LL.owes P.the-type P′.the-laws p ((refl, a), ((refl, k), ((refl, e), (refl, tt)))))
 
 pub of-hit : (w : Hit) (v : Val) → Is (hitK .row) w (v ∷ []) → (w .at < 2 ^ 64) × (w .kept < 2 ^ 64) × (w .from < 2 ^ 32) × (w .to < 2 ^ 32)
 of-hit w v is = let x = LL.owed T.the-type T′.the-laws w (v ∷ []) is in (x .0 .1, x .1 .0 .1, x .1 .1 .0 .1, x .1 .1 .1 .0 .1)

@@ -3,3 +3,4 @@ pub mod Turns
 pub mod Zeros
 pub mod Data
 pub mod Callees
+pub mod NumberTurns

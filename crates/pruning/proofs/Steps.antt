@@ -1,25 +1,26 @@
 -- What is left of a pass, step by step, and passes until one drops none. Nothing here speaks of a walk. Assumes nothing.
---     verdict-A, verdict-B, verdict-none       what a pass does with a constraint, by its sides
+--     pass-stays, pass-drops       what a pass does with a constraint, by its resolution
 --     rest-start       at the start it is the whole pass.    rest-stays    a constraint stays, and is moved to the front.    rest-drops    one is dropped.    rest-end      at the end
 --     pruned-step      a polygraph, pruned, from one pass over it
-use Prim.Native.Nat.{ℕ, zero, suc, _+_, _-_, _^_, _≤_, _<_}
+use Prim.Native.Nat.{ℕ, zero, suc, _+_, _-_, _≤_, _<_}
 use native.Mathlib.Omega.{arith}
-use native.Mathlib.Nat.{add-zero}
 use native.Mathlib.Numerals.{add-one}
 use mathlib.Core.Path.{_≡_, refl, sym, ap, ap₂, subst, _∙_}
-use mathlib.Core.Logic.{_⊎_, inl, inr, ⊎-elim, _≢_}
-use mathlib.Core.Bool.{Bool, true, false, not, cond}
+use mathlib.Core.Logic.{_≢_}
+use mathlib.Core.Bool.{Bool, true, false, not, cond, _||_, true≢false}
 use mathlib.Core.List.{List, [], _∷_, _++_, append-nil, append-assoc}
-use lib.Dec.{T, eqb, eqb→eq}
-use lib.ListN.{length, getD, set, take, drop, length-take, length-drop, length-append, length-set}
-use lib.Seq.{drop-cons, drop-drop, drop-set-lt, take-suc, take-suc-set, take-set-le, getD-drop}
+use lib.Dec.{T, eqb}
+use lib.ListN.{length, getD, set, take, drop}
+use lib.Seq.{drop-cons, drop-set-lt, take-suc-set, take-set-le}
 use Rattle.model.specs.declared.Constraint.{Constraint}
 use Rattle.model.specs.Lent.{noConstraint}
 use Rattle.model.specs.Polygraph.{Polygraph, withSide, closedOff, pass, passes}
-use Rattle.model.proofs.Basics.{decide, true-eq, false-eq, ne-eqb, eq-eqb, eqb-ne}
+use Rattle.model.specs.RowWords.{Tidy}
+use Rattle.graph.proofs.Rows.{side-tidy}
+use Rattle.model.proofs.Basics.{eqb-ne}
 use Rattle.model.proofs.Loops.{pass-A, pass-B, pass-holds}
-use Rattle.pruning.specs.declared.Verdict.{Verdict}
-use Rattle.pruning.specs.Passes.{verdict, verdictOf, part, prepend, rest, pruned}
+use Rattle.pruning.specs.declared.Resolution.{Resolution}
+use Rattle.pruning.specs.Passes.{LowTargets, picked, resolution, resolutionOf, part, prepend, rest, pruned}
 
 -- ---- the verdicts
 
@@ -30,39 +31,45 @@ module _ (g : List ℕ) (c : Constraint) where
   abbrev offB : Bool
   offB = closedOff g (c .fromB) (c .toB)
 
-  pub verdict-A : offA ≡ true → record { drops = 1; from = c .fromB; to = c .toB } ≡ verdictOf g c
-  unfolding verdictOf verdict
-  verdict-A e = sym (ap (λ (a : Bool). verdict a offB c) e)
+  pub resolution-is : (a b : Bool) (x y : ℕ) → a ≡ offA → b ≡ offB → x ≡ picked a b (c .fromB) (c .fromA) → y ≡ picked a b (c .toB) (c .toA) → record { drops = a || b; from = x; to = y } ≡ resolutionOf g c
+  unfolding resolutionOf resolution
+  resolution-is a b x y ea eb ex ey = ap₂ (λ (f t : ℕ). record { drops = a || b; from = f; to = t }) ex ey ∙ ap₂ (λ (a b : Bool). resolution a b c) ea eb
 
-  pub verdict-B : offA ≡ false → offB ≡ true → record { drops = 1; from = c .fromA; to = c .toA } ≡ verdictOf g c
-  unfolding verdictOf verdict
-  verdict-B e f = sym (ap₂ (λ (a b : Bool). verdict a b c) e f)
-
-  pub verdict-none : offA ≡ false → offB ≡ false → record { drops = 0; from = 0; to = 0 } ≡ verdictOf g c
-  unfolding verdictOf verdict
-  verdict-none e f = sym (ap₂ (λ (a b : Bool). verdict a b c) e f)
-
-  -- what the verdict makes of the pass from this constraint on
-  pub pass-stays : (cs : List Constraint) → verdictOf g c .drops ≡ 0 → pass g (c ∷ cs) ≡ prepend (c ∷ []) (pass g cs)
-  unfolding verdictOf verdict
+  -- what the resolution makes of the pass from this constraint on
+  pub pass-stays : (cs : List Constraint) → resolutionOf g c .drops ≡ false → pass g (c ∷ cs) ≡ prepend (c ∷ []) (pass g cs)
+  unfolding resolutionOf resolution picked
   pass-stays cs = go offA offB (λ x. x) (λ x. x) (λ x. x) (λ x. x)
     where
-      go : (a b : Bool) → (T a → T offA) → (T (not a) → T (not offA)) → (T b → T offB) → (T (not b) → T (not offB)) → verdict a b c .drops ≡ 0 → pass g (c ∷ cs) ≡ prepend (c ∷ []) (pass g cs)
-      go true b ay an by bn e = absurd (omega arith)
-      go false true ay an by bn e = absurd (omega arith)
+      go : (a b : Bool) → (T a → T offA) → (T (not a) → T (not offA)) → (T b → T offB) → (T (not b) → T (not offB)) → resolution a b c .drops ≡ false → pass g (c ∷ cs) ≡ prepend (c ∷ []) (pass g cs)
+      go true b ay an by bn e = absurd (true≢false e)
+      go false true ay an by bn e = absurd (true≢false e)
       go false false ay an by bn e = pass-holds g c cs (an tt) (bn tt)
 
-  pub pass-drops : (cs : List Constraint) (f t : ℕ) → verdictOf g c ≡ record { drops = 1; from = f; to = t } → pass g (c ∷ cs) ≡ pass (withSide g f t) cs
-  unfolding verdictOf verdict
+  pub pass-drops : (cs : List Constraint) (f t : ℕ) → resolutionOf g c ≡ record { drops = true; from = f; to = t } → pass g (c ∷ cs) ≡ pass (withSide g f t) cs
+  unfolding resolutionOf resolution picked
   pass-drops cs f t = go offA offB (λ x. x) (λ x. x) (λ x. x) (λ x. x)
     where
-      side : (v w : Verdict) → v ≡ w → pass (withSide g (v .from) (v .to)) cs ≡ pass (withSide g (w .from) (w .to)) cs
-      side v w e = ap (λ (x : Verdict). pass (withSide g (x .from) (x .to)) cs) e
+      side : (v w : Resolution) → v ≡ w → pass (withSide g (v .from) (v .to)) cs ≡ pass (withSide g (w .from) (w .to)) cs
+      side v w e = ap (λ (x : Resolution). pass (withSide g (x .from) (x .to)) cs) e
 
-      go : (a b : Bool) → (T a → T offA) → (T (not a) → T (not offA)) → (T b → T offB) → (T (not b) → T (not offB)) → verdict a b c ≡ record { drops = 1; from = f; to = t } → pass g (c ∷ cs) ≡ pass (withSide g f t) cs
+      go : (a b : Bool) → (T a → T offA) → (T (not a) → T (not offA)) → (T b → T offB) → (T (not b) → T (not offB)) → resolution a b c ≡ record { drops = true; from = f; to = t } → pass g (c ∷ cs) ≡ pass (withSide g f t) cs
       go true b ay an by bn e = pass-A g c cs (ay tt) ∙ side _ _ e
       go false true ay an by bn e = pass-B g c cs (an tt) (by tt) ∙ side _ _ e
-      go false false ay an by bn e = let z : _≡_ {A = ℕ} 0 1 = ap (λ (x : Verdict). x .drops) e in absurd (omega arith)
+      go false false ay an by bn e = absurd (true≢false (sym (ap (λ (x : Resolution). x .drops) e)))
+
+-- the target of the side that is added is a transaction's number
+-- where neither side is closed off there is no side to add
+pub picked-none : (a b : Bool) (x y : ℕ) → (a || b) ≡ false → 0 ≡ picked a b x y
+unfolding picked
+picked-none true b x y e = absurd (subst T e tt)
+picked-none false true x y e = absurd (subst T e tt)
+picked-none false false x y e = refl
+
+pub picked-low : (a b : Bool) (c : Constraint) → LowTargets c → picked a b (c .toB) (c .toA) < 32
+unfolding picked
+picked-low true b c p = p .1
+picked-low false true c p = p .0
+picked-low false false c p = omega arith
 
 -- ---- what is left of a pass
 
@@ -79,7 +86,7 @@ pub rest-start : (g : List ℕ) (l : List Constraint) (end : ℕ) → rest g l 0
 unfolding rest
 rest-start g l end = let e : end - 0 ≡ end = omega arith in ap (λ (m : ℕ). pass g (take m l)) e
 
-pub rest-stays : (g : List ℕ) (l : List Constraint) (i j end : ℕ) → j ≤ i → i < end → end ≤ length l → verdictOf g (getD l i noConstraint) .drops ≡ 0
+pub rest-stays : (g : List ℕ) (l : List Constraint) (i j end : ℕ) → j ≤ i → i < end → end ≤ length l → resolutionOf g (getD l i noConstraint) .drops ≡ false
     → rest g (set l j (getD l i noConstraint)) (i + 1) (j + 1) end ≡ rest g l i j end
 unfolding rest
 rest-stays g l i j end low h long stays =
@@ -91,12 +98,18 @@ rest-stays g l i j end low h long stays =
     ∙ ap (graph (p .known)) (append-assoc (take j l) (c ∷ []) (p .choices))
     ∙ sym (ap (λ (ys : List Constraint). prepend (take j l) (pass g ys)) (part-cons l i end h (omega arith)) ∙ ap (prepend (take j l)) (pass-stays g c (part l (i + 1) end) stays))
 
-pub rest-drops : (g : List ℕ) (l : List Constraint) (i j end f t : ℕ) → i < end → end ≤ length l → verdictOf g (getD l i noConstraint) ≡ record { drops = 1; from = f; to = t }
+pub rest-drops : (g : List ℕ) (l : List Constraint) (i j end f t : ℕ) → i < end → end ≤ length l → resolutionOf g (getD l i noConstraint) ≡ record { drops = true; from = f; to = t }
     → rest g l i j end ≡ rest (withSide g f t) l (i + 1) j end
 unfolding rest
 rest-drops g l i j end f t h long drops =
     ap (λ (ys : List Constraint). prepend (take j l) (pass g ys)) (part-cons l i end h (omega arith))
     ∙ ap (prepend (take j l)) (pass-drops g (getD l i noConstraint) (part l (i + 1) end) f t drops)
+
+-- what is written among those that are passed changes nothing
+pub rest-over : (g : List ℕ) (l : List Constraint) (i j end : ℕ) (c : Constraint) → j ≤ i → rest g (set l j c) (i + 1) j end ≡ rest g l (i + 1) j end
+unfolding rest
+rest-over g l i j end c low =
+    ap₂ (λ (xs ys : List Constraint). prepend xs (pass g (take (end - (i + 1)) ys))) (take-set-le j l j c (omega arith)) (drop-set-lt (i + 1) l j c (omega arith))
 
 pub rest-end : (g : List ℕ) (l : List Constraint) (i j end : ℕ) → end ≤ i → rest g l i j end ≡ graph g (take j l)
 unfolding rest pass
@@ -117,6 +130,20 @@ pass-few (c ∷ cs) g = go (closedOff g (c .fromA) (c .toA)) (closedOff g (c .fr
     go true b x y z = omega arith
     go false true x y z = omega arith
     go false false x y z = omega arith
+
+-- and no edge beyond the 32 nodes
+pub pass-tidy : (cs : List Constraint) (g : List ℕ) → Tidy g → Tidy (pass g cs .known)
+unfolding pass
+pass-tidy [] g ti = ti
+pass-tidy (c ∷ cs) g ti =
+    go (closedOff g (c .fromA) (c .toA)) (closedOff g (c .fromB) (c .toB)) (pass-tidy cs (withSide g (c .fromB) (c .toB)) (side-tidy g (c .fromB) (c .toB)))
+    (pass-tidy cs (withSide g (c .fromA) (c .toA)) (side-tidy g (c .fromA) (c .toA))) (pass-tidy cs g ti)
+  where
+    go : (a b : Bool) → Tidy (pass (withSide g (c .fromB) (c .toB)) cs .known) → Tidy (pass (withSide g (c .fromA) (c .toA)) cs .known) → Tidy (pass g cs .known)
+        → Tidy (cond a (pass (withSide g (c .fromB) (c .toB)) cs) (cond b (pass (withSide g (c .fromA) (c .toA)) cs) (prepend (c ∷ []) (pass g cs))) .known)
+    go true b x y z = x
+    go false true x y z = y
+    go false false x y z = z
 
 -- more passes than constraints change nothing
 enough : (m k : ℕ) (g : List ℕ) (cs : List Constraint) → length cs ≤ m → length cs ≤ k → passes m (graph g cs) ≡ passes k (graph g cs)

@@ -5,49 +5,41 @@
 use Prim.Native.Nat.{ℕ, zero, suc, _+_, _-_, _^_, _≤_, _<_}
 use native.Mathlib.Omega.{arith}
 use mathlib.Core.Path.{_≡_, refl, sym, ap, ap₂, subst, _∙_}
-use mathlib.Core.Logic.{_⊎_, inl, inr, ⊎-elim, _≢_}
-use mathlib.Core.Bool.{Bool, true, false, not, cond, _&&_, _||_}
-use mathlib.Core.List.{List, [], _∷_, _++_, map}
-use lib.Dec.{T, eqb, eqb→eq, ltb, ltb→lt, nltb→le}
+use mathlib.Core.Logic.{⊎-elim, _≢_}
+use mathlib.Core.Bool.{Bool, true, false, not, cond, true≢false, _&&_, _||_}
+use mathlib.Core.List.{List}
+use lib.Dec.{T, eqb, ltb, ltb→lt, nltb→le}
 use lib.Bits.{bitOr}
 use lib.ListN.{length, getD, set, take, drop, length-take, length-set}
 use lib.Seq.{drop-drop, drop-set-lt, getD-set-same, getD-set-other, ext-getD}
-use borrow.Author.Tests.{lt-ltb, le-ltb}
-use Rattle.model.specs.Lists.{upTo, bit, wordOf}
+use Rattle.model.specs.Lists.{bit, wordOf}
 use Rattle.model.specs.declared.Constraint.{Constraint}
 use Rattle.model.specs.Lent.{noConstraint}
-use Rattle.model.specs.Polygraph.{Polygraph, row, has, withSide, reach, pass}
+use Rattle.model.specs.Polygraph.{Polygraph, row, has, withSide, reach}
 use Rattle.model.proofs.Basics.{decide, true-eq, false-eq, ne-eqb, eq-eqb, same?}
 use Rattle.model.proofs.Words.{length-upTo, getD-upTo}
 use Rattle.model.proofs.Masks.{bit-none}
 use Rattle.graph.specs.Bodies.{pointed}
 use Rattle.graph.proofs.Rows.{Small, point-is}
-use Rattle.pruning.specs.declared.Verdict.{Verdict}
+use Rattle.pruning.specs.declared.Resolution.{Resolution}
 use Rattle.pruning.specs.declared.Place.{Place}
 use Rattle.pruning.specs.declared.Hit.{Hit}
-use Rattle.pruning.specs.declared.Pruned.{Pruned}
-use Rattle.pruning.specs.Passes.{Placed, Aims, verdict, verdictOf, choosePlace, firstPlace, nextPlace, rest, pruned, settled, Skimmed, Pruning}
-use Rattle.pruning.proofs.Steps.{graph, rest-start, rest-stays, rest-drops, rest-end, pruned-step}
+use Rattle.pruning.specs.Passes.{LowTargets, Aims, picked, resolution, resolutionOf, choosePlace, firstPlace, nextPlace, rest, pruned, settled, Skimmed, Pruning}
+use Rattle.pruning.proofs.Steps.{graph, picked-low, rest-start, rest-stays, rest-drops, rest-end, pruned-step}
 
 -- ---- a skim
 
-drops-two : (a b : Bool) (c : Constraint) → verdict a b c .drops ≢ 1 → verdict a b c .drops ≡ 0
-unfolding verdict
-drops-two true b c n = absurd (n refl)
-drops-two false true c n = absurd (n refl)
-drops-two false false c n = refl
-
-idle-two : (a b : Bool) (c : Constraint) → verdict a b c .drops ≢ 1 → (verdict a b c .from ≡ 0) × (verdict a b c .to ≡ 0)
-unfolding verdict
-idle-two true b c n = absurd (n refl)
-idle-two false true c n = absurd (n refl)
+idle-two : (a b : Bool) (c : Constraint) → resolution a b c .drops ≡ false → (resolution a b c .from ≡ 0) × (resolution a b c .to ≡ 0)
+unfolding resolution picked
+idle-two true b c n = absurd (true≢false n)
+idle-two false true c n = absurd (true≢false n)
 idle-two false false c n = (refl, refl)
 
 aims-set : (l : List Constraint) (i j end : ℕ) → j ≤ i → i < end → end ≤ length l → Aims l end → Aims (set l j (getD l i noConstraint)) end
 aims-set l i j end low h long aims k less =
     ⊎-elim
-    (λ (e : k ≡ j). subst Placed (sym (ap (λ (m : ℕ). getD (set l j (getD l i noConstraint)) m noConstraint) e ∙ getD-set-same l j (getD l i noConstraint) noConstraint (omega arith))) (aims i h))
-    (λ (e : k ≢ j). subst Placed (sym (getD-set-other l j k (getD l i noConstraint) noConstraint e)) (aims k less)) (same? k j)
+    (λ (e : k ≡ j). subst LowTargets (sym (ap (λ (m : ℕ). getD (set l j (getD l i noConstraint)) m noConstraint) e ∙ getD-set-same l j (getD l i noConstraint) noConstraint (omega arith))) (aims i h))
+    (λ (e : k ≢ j). subst LowTargets (sym (getD-set-other l j k (getD l i noConstraint) noConstraint e)) (aims k less)) (same? k j)
 
 module _ (closed : List ℕ) (ys : List Constraint) (at kept end : ℕ) where
   pub record Upto (i j : ℕ) (l : List Constraint) : Type 0 where
@@ -62,9 +54,9 @@ module _ (closed : List ℕ) (ys : List Constraint) (at kept end : ℕ) where
   pub upto-none : kept ≤ at → at ≤ end → Aims ys end → Upto at kept ys
   upto-none a b c = record { low = omega arith; high = b; behind = a; len = refl; back = refl; aims = c; same = λ g e. refl }
 
-  module _ (i j : ℕ) (l : List Constraint) (v : Verdict) (u : Upto i j l) (long : end ≤ length ys) (says : (g : List ℕ) → closed ≡ reach g → v ≡ verdictOf g (getD l i noConstraint)) where
-    pub upto-next : i < end → v .drops ≢ 1 → Upto (i + 1) (j + 1) (set l j (getD l i noConstraint))
-    unfolding verdictOf
+  module _ (i j : ℕ) (l : List Constraint) (v : Resolution) (u : Upto i j l) (long : end ≤ length ys) (says : (g : List ℕ) → closed ≡ reach g → v ≡ resolutionOf g (getD l i noConstraint)) where
+    pub upto-next : i < end → v .drops ≡ false → Upto (i + 1) (j + 1) (set l j (getD l i noConstraint))
+    unfolding resolutionOf
     upto-next h stays = record {
       low = omega (arith, u .low);
       high = omega arith;
@@ -72,16 +64,16 @@ module _ (closed : List ℕ) (ys : List Constraint) (at kept end : ℕ) where
       len = length-set l j (getD l i noConstraint) ∙ u .len;
       back = drop-set-lt end l j (getD l i noConstraint) (omega (arith, u .behind)) ∙ u .back;
       aims = aims-set l i j end (u .behind) h (omega (arith, u .len)) (u .aims);
-      same = λ g e. rest-stays g l i j end (u .behind) h (omega (arith, u .len)) (drops-two _ _ (getD l i noConstraint) (λ x. stays (ap (λ (w : Verdict). w .drops) (says g e) ∙ x))) ∙ u .same g e;
+      same = λ g e. rest-stays g l i j end (u .behind) h (omega (arith, u .len)) (sym (ap (λ (w : Resolution). w .drops) (says g e)) ∙ stays) ∙ u .same g e;
     }
 
-    pub upto-idle : v .drops ≢ 1 → (g : List ℕ) → closed ≡ reach g → (v .from ≡ 0) × (v .to ≡ 0)
-    unfolding verdictOf
+    pub upto-idle : v .drops ≡ false → (g : List ℕ) → closed ≡ reach g → (v .from ≡ 0) × (v .to ≡ 0)
+    unfolding resolutionOf
     upto-idle stays g e =
-        let z = idle-two _ _ (getD l i noConstraint) (λ x. stays (ap (λ (w : Verdict). w .drops) (says g e) ∙ x)) in
-        (ap (λ (w : Verdict). w .from) (says g e) ∙ z .0, ap (λ (w : Verdict). w .to) (says g e) ∙ z .1)
+        let z = idle-two _ _ (getD l i noConstraint) (sym (ap (λ (w : Resolution). w .drops) (says g e)) ∙ stays) in
+        (ap (λ (w : Resolution). w .from) (says g e) ∙ z .0, ap (λ (w : Resolution). w .to) (says g e) ∙ z .1)
 
-    pub upto-hit : i < end → v .drops ≡ 1 → (g : List ℕ) → closed ≡ reach g → Skimmed g ys at kept end (record { at = i; kept = j; from = v .from; to = v .to }) l
+    pub upto-hit : i < end → v .drops ≡ true → (g : List ℕ) → closed ≡ reach g → Skimmed g ys at kept end (record { at = i; kept = j; from = v .from; to = v .to }) l
     upto-hit h drops g e = record {
       low = u .low;
       high = u .high;
@@ -89,15 +81,15 @@ module _ (closed : List ℕ) (ys : List Constraint) (at kept end : ℕ) where
       same = u .same g e;
       back = u .back;
       aims = u .aims;
-      hit = λ _. sym (says g e) ∙ ap (λ (d : ℕ). record { drops = d; from = v .from; to = v .to }) drops;
+      hit = λ _. sym (says g e) ∙ ap (λ (d : Bool). record { drops = d; from = v .from; to = v .to }) drops;
       stop = λ over. absurd (omega arith);
     }
 
-  -- a verdict that adds no edges
-  abbrev pub Idle : Verdict → Type 0
+  -- a resolution that adds no edges
+  abbrev pub Idle : Resolution → Type 0
   Idle w = (g : List ℕ) → closed ≡ reach g → (w .from ≡ 0) × (w .to ≡ 0)
 
-  pub upto-stop : (i j : ℕ) (l : List Constraint) (w : Verdict) → Upto i j l → Idle w → end ≤ i → (g : List ℕ) → closed ≡ reach g → Skimmed g ys at kept end (record { at = i; kept = j; from = w .from; to = w .to }) l
+  pub upto-stop : (i j : ℕ) (l : List Constraint) (w : Resolution) → Upto i j l → Idle w → end ≤ i → (g : List ℕ) → closed ≡ reach g → Skimmed g ys at kept end (record { at = i; kept = j; from = w .from; to = w .to }) l
   upto-stop i j l w u idle over g e = record {
     low = u .low;
     high = u .high;
@@ -110,16 +102,10 @@ module _ (closed : List ℕ) (ys : List Constraint) (at kept end : ℕ) where
   }
 
 -- the target of the side that is added is a transaction's number
-to-placed : (a b : Bool) (c : Constraint) (f t : ℕ) → verdict a b c ≡ record { drops = 1; from = f; to = t } → Placed c → t < 32
-unfolding verdict
-to-placed true b c f t e p = subst (λ (v : Verdict). v .to < 32) e (p .1)
-to-placed false true c f t e p = subst (λ (v : Verdict). v .to < 32) e (p .0)
-to-placed false false c f t e p = subst (λ (v : Verdict). v .to < 32) e (omega arith)
-
 pub to-small : (g : List ℕ) (ys zs : List Constraint) (at kept end : ℕ) (h : Hit) → Skimmed g ys at kept end h zs → h .to < 32
-unfolding verdictOf
+unfolding resolutionOf resolution
 to-small g ys zs at kept end h k =
-    ⊎-elim (λ (t : T (ltb (h .at) end)). let less = ltb→lt (h .at) end t in to-placed _ _ (getD zs (h .at) noConstraint) (h .from) (h .to) (k .hit less) (k .aims (h .at) less))
+    ⊎-elim (λ (t : T (ltb (h .at) end)). let less = ltb→lt (h .at) end t in subst (λ (v : Resolution). v .to < 32) (k .hit less) (picked-low _ _ (getD zs (h .at) noConstraint) (k .aims (h .at) less)))
     (λ t. omega (arith, k .stop (nltb→le (h .at) end t) .1)) (decide (ltb (h .at) end))
 
 -- ---- the passes
@@ -137,9 +123,9 @@ side-none g long small =
     word u = wordOf 32 (λ v. has g u v || (bit 0 u && eqb v 0))
 
 -- the passes from a pass that stands in the middle, or is the last and over
-unfoldable pub onward : ℕ → List ℕ → List Constraint → ℕ → ℕ → ℕ → Polygraph
-onward zero g l i j end = graph g (take j l)
-onward (suc _) g l i j end = cond (eqb (length (rest g l i j end .choices)) end) (rest g l i j end) (pruned (rest g l i j end))
+unfoldable pub onward : Bool → List ℕ → List Constraint → ℕ → ℕ → ℕ → Polygraph
+onward false g l i j end = graph g (take j l)
+onward true g l i j end = cond (eqb (length (rest g l i j end .choices)) end) (rest g l i j end) (pruned (rest g l i j end))
 
 module _ (rows : List ℕ) (ys : List Constraint) (n pruning : ℕ) where
   -- what pruning is to leave
@@ -150,7 +136,6 @@ module _ (rows : List ℕ) (ys : List Constraint) (n pruning : ℕ) where
     pub low : p .kept ≤ p .at
     pub high : p .at ≤ p .end
     pub within : p .end ≤ n
-    pub flag : p .on ≤ 1
     pub len : length l ≡ length ys
     pub back : drop n l ≡ drop n ys
     pub aims : Aims l (p .end)
@@ -160,7 +145,7 @@ module _ (rows : List ℕ) (ys : List Constraint) (n pruning : ℕ) where
   length-first l m h = simp length-take (omega arith)
 
   -- a new pass over the first m
-  onward-start : (g : List ℕ) (l : List Constraint) (m : ℕ) → m ≤ length l → pruned (graph g (take m l)) ≡ onward 1 g l 0 0 m
+  onward-start : (g : List ℕ) (l : List Constraint) (m : ℕ) → m ≤ length l → pruned (graph g (take m l)) ≡ onward true g l 0 0 m
   unfolding onward
   onward-start g l m h =
       pruned-step g (take m l)
@@ -170,12 +155,11 @@ module _ (rows : List ℕ) (ys : List Constraint) (n pruning : ℕ) where
   unfolding firstPlace settled onward
   stands-start h aims = go (eqb pruning 1) refl
     where
-      go : (b : Bool) → eqb pruning 1 ≡ b → Stands rows ys (choosePlace b (record { at = 0; kept = 0; end = n; on = 1 }) (record { at = n; kept = n; end = n; on = 0 }))
+      go : (b : Bool) → eqb pruning 1 ≡ b → Stands rows ys (choosePlace b (record { at = 0; kept = 0; end = n; on = true }) (record { at = n; kept = n; end = n; on = false }))
       go true e = record {
         low = omega arith;
         high = omega arith;
         within = omega arith;
-        flag = omega arith;
         len = refl;
         back = refl;
         aims = aims;
@@ -185,14 +169,13 @@ module _ (rows : List ℕ) (ys : List Constraint) (n pruning : ℕ) where
         low = omega arith;
         high = omega arith;
         within = omega arith;
-        flag = omega arith;
         len = refl;
         back = refl;
         aims = aims;
         known = ap (λ (b : Bool). cond b (pruned (graph rows (take n ys))) (graph rows (take n ys))) e;
       }
 
-  module _ (g : List ℕ) (l zs : List Constraint) (p : Place) (h : Hit) (s : Stands g l p) (on : p .on ≡ 1) (k : Skimmed g l (p .at) (p .kept) (p .end) h zs)
+  module _ (g : List ℕ) (l zs : List Constraint) (p : Place) (h : Hit) (s : Stands g l p) (on : p .on ≡ true) (k : Skimmed g l (p .at) (p .kept) (p .end) h zs)
       (len : length zs ≡ length ys) (fits : n ≤ length ys) (long : length g ≡ 32) (small : Small g) where
     abbrev q : Polygraph
     q = rest g zs (h .at) (h .kept) (p .end)
@@ -200,7 +183,7 @@ module _ (rows : List ℕ) (ys : List Constraint) (n pruning : ℕ) where
     stops : goal ≡ cond (eqb (length (q .choices)) (p .end)) q (pruned q)
     unfolding onward
     stops =
-        s .known ∙ ap (λ (m : ℕ). onward m g l (p .at) (p .kept) (p .end)) on
+        s .known ∙ ap (λ (m : Bool). onward m g l (p .at) (p .kept) (p .end)) on
         ∙ ap (λ (x : Polygraph). cond (eqb (length (x .choices)) (p .end)) x (pruned x)) (sym (k .same))
 
     -- the places from n on are as they were
@@ -215,13 +198,12 @@ module _ (rows : List ℕ) (ys : List Constraint) (n pruning : ℕ) where
     abbrev Next : Place → Type 0
     Next r = Stands (withSide g (h .from) (h .to)) zs r
 
-    hit-on : h .at < p .end → Next (record { at = h .at + 1; kept = h .kept; end = p .end; on = 1 })
+    hit-on : h .at < p .end → Next (record { at = h .at + 1; kept = h .kept; end = p .end; on = true })
     unfolding onward
     hit-on less = record {
       low = omega (arith, k .behind);
       high = omega arith;
       within = s .within;
-      flag = omega arith;
       len = len;
       back = back-n;
       aims = k .aims;
@@ -243,20 +225,19 @@ module _ (rows : List ℕ) (ys : List Constraint) (n pruning : ℕ) where
           stops ∙ ap (λ (x : Polygraph). cond (eqb (length (x .choices)) (p .end)) x (pruned x)) passed
           ∙ ap (λ (m : ℕ). cond (eqb m (p .end)) (graph g (take (h .kept) zs)) (pruned (graph g (take (h .kept) zs)))) (length-first zs (h .kept) kept-in)
 
-      hit-new : h .kept < p .end → Next (record { at = 0; kept = 0; end = h .kept; on = 1 })
+      hit-new : h .kept < p .end → Next (record { at = 0; kept = 0; end = h .kept; on = true })
       hit-new fewer = record {
         low = omega arith;
         high = omega arith;
         within = omega (arith, s .within);
-        flag = omega arith;
         len = len;
         back = back-n;
         aims = λ m less. k .aims m (omega arith);
         known = stops-at ∙ ap (λ (b : Bool). cond b (graph g (take (h .kept) zs)) (pruned (graph g (take (h .kept) zs)))) (false-eq (eqb (h .kept) (p .end)) (ne-eqb {m = h .kept} {n = p .end} (omega arith)))
-            ∙ onward-start g zs (h .kept) kept-in ∙ ap (λ (x : List ℕ). onward 1 x zs 0 0 (h .kept)) (sym same-rows);
+            ∙ onward-start g zs (h .kept) kept-in ∙ ap (λ (x : List ℕ). onward true x zs 0 0 (h .kept)) (sym same-rows);
       }
 
-      hit-last : p .end ≤ h .kept → Next (record { at = h .at; kept = h .kept; end = p .end; on = 0 })
+      hit-last : p .end ≤ h .kept → Next (record { at = h .at; kept = h .kept; end = p .end; on = false })
       unfolding onward
       hit-last none-dropped =
           let e : h .kept ≡ p .end = omega (arith, k .behind, k .high) in
@@ -264,7 +245,6 @@ module _ (rows : List ℕ) (ys : List Constraint) (n pruning : ℕ) where
             low = k .behind;
             high = k .high;
             within = s .within;
-            flag = omega arith;
             len = len;
             back = back-n;
             aims = k .aims;
@@ -278,15 +258,15 @@ module _ (rows : List ℕ) (ys : List Constraint) (n pruning : ℕ) where
         go (ltb (h .at) (p .end)) (ltb (h .kept) (p .end)) (λ t. ltb→lt (h .at) (p .end) t) (λ t. nltb→le (h .at) (p .end) t) (λ t. ltb→lt (h .kept) (p .end) t) (λ t. nltb→le (h .kept) (p .end) t)
       where
         go : (a b : Bool) → (T a → h .at < p .end) → (T (not a) → p .end ≤ h .at) → (T b → h .kept < p .end) → (T (not b) → p .end ≤ h .kept)
-            → Next (choosePlace a (record { at = h .at + 1; kept = h .kept; end = p .end; on = 1 }) (choosePlace b (record { at = 0; kept = 0; end = h .kept; on = 1 }) (record { at = h .at; kept = h .kept; end = p .end; on = 0 })))
+            → Next (choosePlace a (record { at = h .at + 1; kept = h .kept; end = p .end; on = true }) (choosePlace b (record { at = 0; kept = 0; end = h .kept; on = true }) (record { at = h .at; kept = h .kept; end = p .end; on = false })))
         go true b ay an by bn = hit-on (ay tt)
         go false true ay an by bn = hit-new (an tt) (by tt)
         go false false ay an by bn = hit-last (an tt) (bn tt)
 
-  pub stands-end : (g : List ℕ) (l : List Constraint) (p : Place) → Stands g l p → p .on ≡ 0 → n ≤ length ys → Pruning rows ys n pruning (record { rows = g; left = p .kept }) l
+  pub stands-end : (g : List ℕ) (l : List Constraint) (p : Place) → Stands g l p → p .on ≡ false → n ≤ length ys → Pruning rows ys n pruning (record { rows = g; left = p .kept }) l
   unfolding onward
   stands-end g l p s off fits =
-      let e : goal ≡ graph g (take (p .kept) l) = s .known ∙ ap (λ (m : ℕ). onward m g l (p .at) (p .kept) (p .end)) off in
+      let e : goal ≡ graph g (take (p .kept) l) = s .known ∙ ap (λ (m : Bool). onward m g l (p .at) (p .kept) (p .end)) off in
       record {
         few = omega (arith, s .low, s .high, s .within);
         left-is = sym (ap (λ (x : Polygraph). length (x .choices)) e ∙ length-first l (p .kept) (omega (arith, s .low, s .high, s .within, s .len)));
@@ -307,21 +287,21 @@ tri-more zero m h = absurd (omega arith)
 tri-more (suc n) m h =
     ⊎-elim (λ (e : m ≡ n). subst (λ (x : ℕ). tri x + x < suc (tri n + n)) (sym e) (omega arith)) (λ (e : m ≢ n). let l = tri-more n m (omega arith) in omega arith) (same? m n)
 
-unfoldable pub todoFrom : ℕ → ℕ → ℕ → ℕ
-todoFrom zero at end = 0
-todoFrom (suc _) at end = suc (tri end + (end - at))
+unfoldable pub todoFrom : Bool → ℕ → ℕ → ℕ
+todoFrom false at end = 0
+todoFrom true at end = suc (tri end + (end - at))
 
 unfoldable pub todo : Place → ℕ
 todo p = todoFrom (p .on) (p .at) (p .end)
 
-pub todo-less : (g : List ℕ) (l zs : List Constraint) (p : Place) (h : Hit) → p .on ≡ 1 → Skimmed g l (p .at) (p .kept) (p .end) h zs → todo (nextPlace p h) < todo p
+pub todo-less : (g : List ℕ) (l zs : List Constraint) (p : Place) (h : Hit) → p .on ≡ true → Skimmed g l (p .at) (p .kept) (p .end) h zs → todo (nextPlace p h) < todo p
 unfolding todo todoFrom nextPlace
 todo-less g l zs p h on k =
-    subst (λ (m : ℕ). todo (nextPlace p h) < todoFrom m (p .at) (p .end)) (sym on)
+    subst (λ (m : Bool). todo (nextPlace p h) < todoFrom m (p .at) (p .end)) (sym on)
     (go (ltb (h .at) (p .end)) (ltb (h .kept) (p .end)) (λ t. ltb→lt (h .at) (p .end) t) (λ t. ltb→lt (h .kept) (p .end) t))
   where
     go : (a b : Bool) → (T a → h .at < p .end) → (T b → h .kept < p .end)
-        → todo (choosePlace a (record { at = h .at + 1; kept = h .kept; end = p .end; on = 1 }) (choosePlace b (record { at = 0; kept = 0; end = h .kept; on = 1 }) (record { at = h .at; kept = h .kept; end = p .end; on = 0 })))
+        → todo (choosePlace a (record { at = h .at + 1; kept = h .kept; end = p .end; on = true }) (choosePlace b (record { at = 0; kept = 0; end = h .kept; on = true }) (record { at = h .at; kept = h .kept; end = p .end; on = false })))
         < suc (tri (p .end) + (p .end - p .at))
     go true b ay by = let less = ay tt in omega (arith, k .low)
     go false true ay by = omega (arith, tri-more (p .end) (h .kept) (by tt))

@@ -1,34 +1,38 @@
 -- What one step of a pass does, and what is left of a pass that stands in the middle of a list. Assumes nothing.
-use Prim.Native.Nat.{ℕ, zero, suc, _+_, _-_, _≤_, _<_}
+use Prim.Native.Nat.{ℕ, _+_, _-_, _≤_, _<_}
 use mathlib.Core.Path.{_≡_}
-use mathlib.Core.Bool.{Bool, true, false, cond}
-use mathlib.Core.List.{List, [], _∷_, _++_}
+use mathlib.Core.Bool.{Bool, true, false, cond, _||_}
+use mathlib.Core.List.{List, _++_}
 use lib.Dec.{eqb, ltb}
 use lib.ListN.{length, getD, take, drop}
 use Rattle.model.specs.declared.Constraint.{Constraint}
 use Rattle.model.specs.Lent.{noConstraint}
-use Rattle.model.specs.Polygraph.{Polygraph, withSide, closedOff, pass, passes}
-use Rattle.pruning.specs.declared.Verdict.{Verdict}
+use Rattle.model.specs.Polygraph.{Polygraph, closedOff, pass, passes}
+use Rattle.pruning.specs.declared.Resolution.{Resolution}
 use Rattle.pruning.specs.declared.Place.{Place}
 use Rattle.pruning.specs.declared.Hit.{Hit}
 use Rattle.pruning.specs.declared.Pruned.{Pruned}
 
 -- both targets are transactions' numbers
-abbrev pub Placed : Constraint → Type 0
-Placed c = (c .toA < 32) × (c .toB < 32)
+abbrev pub LowTargets : Constraint → Type 0
+LowTargets c = (c .toA < 32) × (c .toB < 32)
 
 -- and so in each of the first n constraints
 abbrev pub Aims : List Constraint → ℕ → Type 0
-Aims ys n = (k : ℕ) → k < n → Placed (getD ys k noConstraint)
+Aims ys n = (k : ℕ) → k < n → LowTargets (getD ys k noConstraint)
 
--- by whether side A, and side B, is closed off
-unfoldable pub verdict : Bool → Bool → Constraint → Verdict
-verdict true b c = record { drops = 1; from = c .fromB; to = c .toB }
-verdict false true c = record { drops = 1; from = c .fromA; to = c .toA }
-verdict false false c = record { drops = 0; from = 0; to = 0 }
+-- by whether side A, and side B, is closed off: x, else y, else 0
+unfoldable pub picked : Bool → Bool → ℕ → ℕ → ℕ
+picked true b x y = x
+picked false true x y = y
+picked false false x y = 0
 
-unfoldable pub verdictOf : List ℕ → Constraint → Verdict
-verdictOf g c = verdict (closedOff g (c .fromA) (c .toA)) (closedOff g (c .fromB) (c .toB)) c
+-- the side that is added is the other one
+unfoldable pub resolution : Bool → Bool → Constraint → Resolution
+resolution a b c = record { drops = a || b; from = picked a b (c .fromB) (c .fromA); to = picked a b (c .toB) (c .toA) }
+
+unfoldable pub resolutionOf : List ℕ → Constraint → Resolution
+resolutionOf g c = resolution (closedOff g (c .fromA) (c .toA)) (closedOff g (c .fromB) (c .toB)) c
 
 abbrev pub choosePlace : Bool → Place → Place → Place
 choosePlace true a b = a
@@ -36,13 +40,13 @@ choosePlace false a b = b
 
 -- pruning of n constraints starts with a pass over them; with pruning 0 all are kept
 unfoldable pub firstPlace : ℕ → ℕ → Place
-firstPlace n pruning = choosePlace (eqb pruning 1) (record { at = 0; kept = 0; end = n; on = 1 }) (record { at = n; kept = n; end = n; on = 0 })
+firstPlace n pruning = choosePlace (eqb pruning 1) (record { at = 0; kept = 0; end = n; on = true }) (record { at = n; kept = n; end = n; on = false })
 
 -- after a hit the pass goes on behind it; at its end the next starts over those kept, unless none was dropped
 unfoldable pub nextPlace : Place → Hit → Place
 nextPlace p h =
-    choosePlace (ltb (h .at) (p .end)) (record { at = h .at + 1; kept = h .kept; end = p .end; on = 1 })
-    (choosePlace (ltb (h .kept) (p .end)) (record { at = 0; kept = 0; end = h .kept; on = 1 }) (record { at = h .at; kept = h .kept; end = p .end; on = 0 }))
+    choosePlace (ltb (h .at) (p .end)) (record { at = h .at + 1; kept = h .kept; end = p .end; on = true })
+    (choosePlace (ltb (h .kept) (p .end)) (record { at = 0; kept = 0; end = h .kept; on = true }) (record { at = h .at; kept = h .kept; end = p .end; on = false }))
 
 -- the constraints from i on, below the end
 abbrev pub part : List Constraint → ℕ → ℕ → List Constraint
@@ -72,7 +76,7 @@ pub record Skimmed (g : List ℕ) (ys : List Constraint) (at kept end : ℕ) (r 
   pub same : rest g zs (r .at) (r .kept) end ≡ rest g ys at kept end
   pub back : drop end zs ≡ drop end ys
   pub aims : Aims zs end
-  pub hit : r .at < end → verdictOf g (getD zs (r .at) noConstraint) ≡ record { drops = 1; from = r .from; to = r .to }
+  pub hit : r .at < end → resolutionOf g (getD zs (r .at) noConstraint) ≡ record { drops = true; from = r .from; to = r .to }
   pub stop : end ≤ r .at → (r .from ≡ 0) × (r .to ≡ 0)
 
 -- what pruning the first n of ys leaves: the model's edges and constraints, and the places from n on as they were

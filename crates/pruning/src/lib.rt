@@ -6,26 +6,28 @@ ghost use Prim.Native.Nat.{ℕ, _-_, _<_, _≤_};
 ghost use lib.ListN.{length, take, drop, replicate};
 ghost use Rattle.model.specs.Polygraph.{reach};
 ghost use Rattle.model.specs.Lent.{noConstraint};
-ghost use Rattle.pruning.specs.Passes.{Placed, Aims, verdictOf, firstPlace, nextPlace, Skimmed, Pruning};
+ghost use Rattle.pruning.specs.Passes.{LowTargets, Aims, picked, resolutionOf, firstPlace, nextPlace, Skimmed, Pruning};
 use model::Constraint;
 
-// What a pass does with a constraint: `drops` is 1 where it drops it, and then the edges from each source in `from` to `to` are added.
-pub struct Verdict {
-    pub drops: usize,
+pub mod numbers;
+
+// What a pass does with a constraint: whether it drops it, and then the edges from each source in `from` to `to` are added.
+struct Resolution {
+    pub drops: bool,
     pub from: u32,
     pub to: u32,
 }
 
-// Where a pass stands: at the constraint `at` of those below `end`, with `kept` at the front. `on` is 0 once a pass has dropped none.
-pub struct Place {
+// Where a pass stands: at the constraint `at` of those below `end`, with `kept` at the front. No pass is `on` once one has dropped none.
+struct Place {
     pub at: usize,
     pub kept: usize,
     pub end: usize,
-    pub on: usize,
+    pub on: bool,
 }
 
 // The next constraint that is dropped, with the side that is added, or the end of the pass, with no edges to add.
-pub struct Hit {
+struct Hit {
     pub at: usize,
     pub kept: usize,
     pub from: u32,
@@ -38,34 +40,40 @@ pub struct Pruned {
     pub left: usize,
 }
 
-// What a pass does with a constraint, by the closed rows so far.
-pub fn judge(closed: &[u32; 32], c: Constraint) -> Verdict
-    requires { ⌜ Placed c ⌝ }
-    ensures { λ r. ⌜ ((g : List ℕ) → now (closed .entry) ≡ reach g → r ≡ verdictOf g c) ⌝ }
+// x where side A is closed off, else y where side B is, else 0.
+fn pick(a: bool, b: bool, x: u32, y: u32) -> u32
+    ensures { λ r. ⌜ r ≡ picked a b x y ⌝ }
 {
-    if graph::closed_off(closed, c.fromA, c.toA) {
-        return Verdict {
-            drops: 1,
-            from: c.fromB,
-            to: c.toB,
+    if a {
+        return x;
+    }
+    if b { y } else { 0 }
+}
+
+// What a pass does with a constraint, by the closed rows so far.
+fn judge(closed: &[u32; 32], c: Constraint) -> Resolution
+    requires { ⌜ LowTargets c ⌝ }
+    ensures { λ r. ⌜ (r .to < 32) × ((g : List ℕ) → now (closed .entry) ≡ reach g → r ≡ resolutionOf g c) ⌝ }
+{
+    let a = graph::closed_off(closed, c.fromA, c.toA);
+    let b = graph::closed_off(closed, c.fromB, c.toB);
+    let drops = a | b;
+    if !drops {
+        return Resolution {
+            drops,
+            from: 0,
+            to: 0,
         };
     }
-    if graph::closed_off(closed, c.fromB, c.toB) {
-        return Verdict {
-            drops: 1,
-            from: c.fromA,
-            to: c.toA,
-        };
-    }
-    Verdict {
-        drops: 0,
-        from: 0,
-        to: 0,
+    Resolution {
+        drops,
+        from: pick(a, b, c.fromB, c.fromA),
+        to: pick(a, b, c.toB, c.toA),
     }
 }
 
 // Constraints that stay are moved to the front, up to the next that is dropped: a thin loop, proved by hand.
-pub fn skim<'a, 'b>(
+fn skim<'a, 'b>(
     closed: &'a [u32; 32],
     list: &'b mut [Constraint],
     at: usize,
@@ -77,15 +85,15 @@ pub fn skim<'a, 'b>(
 {
     let mut i = at;
     let mut j = kept;
-    let mut v = Verdict {
-        drops: 0,
+    let mut v = Resolution {
+        drops: false,
         from: 0,
         to: 0,
     };
     while i < end {
         let c = list[i];
         v = judge(closed, c);
-        if v.drops == 1 {
+        if v.drops {
             break;
         }
         list[j] = c;
@@ -101,7 +109,7 @@ pub fn skim<'a, 'b>(
 }
 
 // Where the pass goes on after a hit; at its end the next one starts, over those left, unless it dropped none.
-pub fn after(p: Place, h: Hit) -> Place
+fn after(p: Place, h: Hit) -> Place
     requires { ⌜ h .at ≤ p .end ⌝ }
     ensures { λ r. ⌜ r ≡ nextPlace p h ⌝ }
 {
@@ -110,7 +118,7 @@ pub fn after(p: Place, h: Hit) -> Place
             at: h.at + 1,
             kept: h.kept,
             end: p.end,
-            on: 1,
+            on: true,
         };
     }
     if h.kept < p.end {
@@ -118,19 +126,19 @@ pub fn after(p: Place, h: Hit) -> Place
             at: 0,
             kept: 0,
             end: h.kept,
-            on: 1,
+            on: true,
         };
     }
     Place {
         at: h.at,
         kept: h.kept,
         end: p.end,
-        on: 0,
+        on: false,
     }
 }
 
 // Where pruning of n constraints starts; with pruning 0 all are kept, and no pass is on.
-pub fn begin(n: usize, pruning: u8) -> Place
+fn begin(n: usize, pruning: u8) -> Place
     ensures { λ r. ⌜ r ≡ firstPlace n pruning ⌝ }
 {
     if pruning == 1 {
@@ -138,14 +146,14 @@ pub fn begin(n: usize, pruning: u8) -> Place
             at: 0,
             kept: 0,
             end: n,
-            on: 1,
+            on: true,
         }
     } else {
         Place {
             at: n,
             kept: n,
             end: n,
-            on: 0,
+            on: false,
         }
     }
 }
@@ -158,7 +166,7 @@ pub fn prune(rows: [u32; 32], list: &mut [Constraint], n: usize, pruning: u8) ->
     let mut known = rows;
     let mut closed = graph::closure(rows);
     let mut p = begin(n, pruning);
-    while p.on == 1 {
+    while p.on {
         let h = skim(&closed, list, p.at, p.kept, p.end);
         p = after(p, h);
         let next = graph::add_side(known, h.from, h.to);

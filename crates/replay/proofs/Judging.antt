@@ -1,13 +1,13 @@
 -- Whether an order is legal, by the two tests that are left of one. Assumes nothing.
-use mathlib.Core.Path.{_≡_, sym, ap, ap₂, subst, _∙_}
+use mathlib.Core.Path.{_≡_, sym, ap, _∙_}
 use mathlib.Core.Bool.{Bool, true, false, _&&_}
 use mathlib.Core.List.{List}
 use Prim.Native.Nat.{ℕ}
 use lib.Dec.{T}
 use Rattle.model.specs.Lists.{all, upTo}
-use Rattle.model.specs.History.{size, isOrder, keepsCabinets, everyReadExplained, legal}
-use Rattle.model.specs.Log.{transactionsIn, loadNumber, historyOf}
-use Rattle.model.proofs.Basics.{true-eq, false-eq}
+use Rattle.model.specs.History.{isOrder, keepsCabinets, everyReadExplained, legal}
+use Rattle.model.specs.Log.{transactionsIn, historyOf}
+use Rattle.model.proofs.Basics.{true-eq}
 use Rattle.model.proofs.Places.{order-out}
 use Rattle.model.proofs.Loaded.{history-size}
 use Rattle.replay.specs.Orders.{Places}

@@ -3,17 +3,17 @@ use Prim.Native.Nat.{ℕ, zero, suc, _+_, _^_, _≤_, _<_}
 use native.Mathlib.Omega.{arith}
 use native.Mathlib.Nat.{not-suc-le-zero}
 use native.Mathlib.Numerals.{add-one}
-use mathlib.Core.Path.{_≡_, refl, sym, ap, ap₂, subst, _∙_}
+use mathlib.Core.Path.{_≡_, refl, sym, ap, subst, _∙_}
 use mathlib.Core.Logic.{_⊎_, inl, inr, ⊎-elim, _≢_}
-use mathlib.Core.Bool.{Bool, true, false, not, _&&_, _||_}
+use mathlib.Core.Bool.{true, false, not, _&&_}
 use mathlib.Core.List.{List, [], _∷_, _++_}
 use lib.Bits.{bitOr}
-use lib.Dec.{T, eqb, ltb, eqb→eq, ltb→lt, lt→ltb, nltb→le}
+use lib.Dec.{T, ltb, eqb→eq, ltb→lt, lt→ltb, nltb→le}
 use lib.ListN.{length, getD, take}
 use lib.Seq.{take-suc, take-all}
-use Rattle.model.specs.Lists.{All, all, upTo, count, bit}
+use Rattle.model.specs.Lists.{All, all, count, bit}
 use Rattle.model.specs.History.{isOrder}
-use Rattle.model.proofs.Basics.{decide, clash, not-intro, and-l, and-r, and-in, or-out, or-l, or-r, true-eq, false-eq, eq-eqb, same?, All-app, All-left, All-right}
+use Rattle.model.proofs.Basics.{decide, clash, not-intro, and-l, and-r, and-in, or-out, or-l, or-r, true-eq, false-eq, eq-eqb, same?, All-app, All-right}
 use Rattle.model.proofs.Masks.{bit-or, bit-one, bit-none}
 use Rattle.model.proofs.Places.{Once, Order, order-in, order-out, order-once, order-length, count-here, count-there}
 use Rattle.model.proofs.Topology.{count-append}

@@ -3,16 +3,16 @@ use Prim.Native.Nat.{ℕ, zero, suc, _+_, _≤_, _<_}
 use native.Mathlib.Omega.{arith}
 use native.Mathlib.Nat.{not-suc-le-zero}
 use mathlib.Core.Path.{_≡_, refl, sym, ap, ap₂, subst, _∙_}
-use mathlib.Core.Logic.{_⊎_, inl, inr, ⊎-elim, _≢_}
-use mathlib.Core.Bool.{Bool, true, false, not, _&&_}
+use mathlib.Core.Logic.{_⊎_, ⊎-elim, _≢_}
+use mathlib.Core.Bool.{_&&_}
 use mathlib.Core.List.{List, [], _∷_}
-use lib.Dec.{T, ltb, eqb, lt→ltb}
+use lib.Dec.{T, ltb, eqb}
 use lib.ListN.{length, getD, set}
 use lib.Seq.{getD-set-same, getD-set-other}
 use Rattle.model.specs.Lists.{implies, all, upTo, count, place}
-use Rattle.model.specs.History.{History, size, cabinetOf, isOrder, before, mustPrecede, keepsCabinets}
+use Rattle.model.specs.History.{cabinetOf, isOrder, before, mustPrecede, keepsCabinets}
 use Rattle.model.specs.Log.{transactionsIn, loadNumber, historyOf}
-use Rattle.model.proofs.Basics.{same?, false-eq, not-intro, ne-eqb}
+use Rattle.model.proofs.Basics.{same?, false-eq, not-intro}
 use Rattle.model.proofs.Places.{Once, once-tail, Order, order-out, order-once, order-place, order-length, count-here, count-there, place-here, place-there}
 use Rattle.model.proofs.Loaded.{loaded, history-size}
 use Rattle.log.specs.Reading.{InLog}

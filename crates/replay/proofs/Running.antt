@@ -1,22 +1,21 @@
 -- The replay over a table: one transaction's operations, and the last writers that explain its reads. Assumes nothing.
-use Prim.Native.Nat.{ℕ, zero, suc, _+_, _≤_, _<_}
+use Prim.Native.Nat.{ℕ, _+_, _<_}
 use native.Mathlib.Omega.{arith}
 use native.Mathlib.Numerals.{add-one}
 use mathlib.Core.Path.{_≡_, refl, sym, ap, ap₂, subst, _∙_}
-use mathlib.Core.Logic.{_⊎_, inl, inr, ⊎-elim, _≢_}
-use mathlib.Core.Bool.{Bool, true, false, not, cond, _&&_, _||_}
+use mathlib.Core.Logic.{_⊎_, ⊎-elim, _≢_}
+use mathlib.Core.Bool.{Bool, true, false, cond, _&&_, _||_}
 use mathlib.Core.List.{List, [], _∷_, _++_, map}
-use lib.Dec.{T, eqb, eqb→eq}
+use lib.Dec.{T, eqb}
 use lib.ListN.{length, getD, set, take, replicate, length-set, getD-replicate}
-use lib.Seq.{getD-set-same, getD-set-other, take-suc, take-all}
-use Rattle.model.specs.Lists.{implies, all, any, All, keep, fold, upTo, place}
-use Rattle.model.specs.History.{Operation, History, start, size, operationsOf, isWrite, outward, writes, lastWriter, explained, everyReadExplained, stored, replay, startingTable, finalTable}
+use lib.Seq.{getD-set-same, getD-set-other, set-getD, take-suc, take-all}
+use Rattle.model.specs.Lists.{implies, all, any, keep, fold, upTo, place}
+use Rattle.model.specs.History.{Operation, History, start, size, operationsOf, isWrite, outward, writes, lastWriter, explained, everyReadExplained, stored, replay, finalTable}
 use Rattle.model.specs.Log.{transactionsIn, countAt, startAt, loadNumber, operationAt, historyOf}
-use Rattle.model.proofs.Basics.{decide, true-eq, false-eq, eq-eqb, ne-eqb, same?, iff-eq, All-imp, all-upTo-out, all-upTo-in}
-use Rattle.model.proofs.Known.{Loadable}
+use Rattle.model.proofs.Basics.{true-eq, false-eq, eq-eqb, ne-eqb, same?, iff-eq, All-imp, all-upTo-out, all-upTo-in}
 use Rattle.model.proofs.Loaded.{history-size, operationOf, operations-at, loadable-log}
 use Rattle.model.proofs.Loops.{map-snoc, keep-snoc, fold-snoc, before-take}
-use Rattle.model.proofs.Places.{Once, Order, order-once, order-place, order-length}
+use Rattle.model.proofs.Places.{Order, order-once, order-place, order-length}
 use Rattle.log.specs.Reading.{asOperation}
 use Rattle.log.specs.declared.Body.{Body}
 use Rattle.replay.specs.Steps.{agreesBy, readsAgree, putBy, storedBy}
@@ -44,7 +43,7 @@ module _ (marks : Bool) (b table : List ℕ) (t : ℕ) where
   unfolding storedTo
   stored-none = refl
 
-  pub stored-next : (m : ℕ) → putBy (storedTo m) (operationOf b t m) (cond marks t (operationOf b t m .argument)) ≡ storedTo (m + 1)
+  stored-next : (m : ℕ) → putBy (storedTo m) (operationOf b t m) (cond marks t (operationOf b t m .argument)) ≡ storedTo (m + 1)
   unfolding storedTo putBy
   stored-next m =
       go (isWrite o)
@@ -62,10 +61,16 @@ module _ (marks : Bool) (b table : List ℕ) (t : ℕ) where
       go false = ap (fold leaves table) (sym (mathlib.Core.List.append-nil so-far))
 
   -- the same as the code does it
-  pub put-is : (m : ℕ) (out : List ℕ) (o : Body) (x : ℕ) (r : List ℕ) → out ≡ storedTo m → asOperation o ≡ operationOf b t m → x ≡ cond marks t (o .argument) → r ≡ putBy out (asOperation o) x
-      → r ≡ putBy (storedTo m) (operationOf b t m) (cond marks t (operationOf b t m .argument))
-  put-is m out o x r p q e f =
-      f ∙ ap₂ (λ tb y. putBy tb (asOperation o) y) p e ∙ ap (λ (a : Operation). putBy (storedTo m) a (cond marks t (a .argument))) q
+  pub put-is : (m : ℕ) (out : List ℕ) (o : Body) (x y : ℕ) → out ≡ storedTo m → asOperation o ≡ operationOf b t m → x ≡ cond marks t (o .argument)
+      → y ≡ cond (isWrite (asOperation o)) x (getD out (o .key) 0) → set out (o .key) y ≡ storedTo (m + 1)
+  unfolding putBy
+  put-is m out o x y p q e f =
+      ap (set out (o .key)) f ∙ go (isWrite (asOperation o)) ∙ ap₂ (λ tb z. putBy tb (asOperation o) z) p e
+      ∙ ap (λ (a : Operation). putBy (storedTo m) a (cond marks t (a .argument))) q ∙ stored-next m
+    where
+      go : (w : Bool) → set out (o .key) (cond w x (getD out (o .key) 0)) ≡ cond w (set out (o .key) x) out
+      go true = refl
+      go false = set-getD out (o .key) 0
 
   pub stored-all : (m : ℕ) → t < transactionsIn b → m ≡ countAt b t → storedTo m ≡ storedBy marks (historyOf b) table t
   unfolding storedTo storedBy

@@ -45,7 +45,7 @@ fn keeps_from(log: &[u8], places: [u8; 32], n: usize, u: usize) -> bool
 }
 
 // The same of all.
-pub fn keeps(log: &[u8], places: [u8; 32]) -> bool
+pub(crate) fn keeps(log: &[u8], places: [u8; 32]) -> bool
     requires { ⌜ loadNumber (now log) ≡ 0 ⌝ }
     ensures { λ r. ⌜ r ≡ all (λ (u : ℕ). all (keptBy (now (log .entry)) places u) (upTo (transactionsIn (now (log .entry))))) (upTo (transactionsIn (now (log .entry)))) ⌝ }
 {

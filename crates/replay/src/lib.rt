@@ -5,7 +5,7 @@ ghost use lib.Dec.{T};
 ghost use Rattle.model.specs.History.{isOrder, legal};
 ghost use Rattle.model.specs.Log.{transactionsIn, loadNumber, historyOf};
 
-pub mod cabinets;
+mod cabinets;
 pub mod orders;
 pub mod tables;
 

@@ -39,7 +39,7 @@ pub fn is_order(n: u32, list: &[u8]) -> bool
 }
 
 // The place of each number of an order.
-pub fn places(order: &[u8]) -> [u8; 32]
+pub(crate) fn places(order: &[u8]) -> [u8; 32]
     requires { ⌜ Ordered (now order) ⌝ }
     ensures { λ r. ⌜ Places (now (order .entry)) r ⌝ }
 {

@@ -3,10 +3,10 @@ ghost use mathlib.Core.Path.{_≡_};
 ghost use mathlib.Core.Bool.{cond};
 ghost use Prim.Native.Nat.{_<_};
 ghost use lib.Dec.{T};
-ghost use Rattle.model.specs.History.{isOrder, everyReadExplained, finalTable};
+ghost use Rattle.model.specs.History.{isOrder, isWrite, everyReadExplained, finalTable};
 ghost use Rattle.model.specs.Log.{transactionsIn, loadNumber, historyOf};
 ghost use Rattle.log.specs.Reading.{InLog, asOperation};
-ghost use Rattle.replay.specs.Steps.{agreesBy, readsAgree, putBy, storedBy};
+ghost use Rattle.replay.specs.Steps.{agreesBy, readsAgree, storedBy};
 use log::Body;
 
 // Whether a read that looks outward names the last writer of its key.
@@ -37,20 +37,6 @@ fn reads_agree(log: &[u8], last: [u16; 32], t: usize) -> bool
     true
 }
 
-// The table with x at the operation's key, where it is a write.
-fn put(table: [u16; 32], o: Body, x: u16) -> [u16; 32]
-    requires { ⌜ o .key < 32 ⌝ }
-    ensures { λ r. ⌜ r ≡ putBy table (asOperation o) x ⌝ }
-{
-    if o.kind != 1 {
-        return table;
-    }
-    let mut out = table;
-    let key = o.key;
-    out[key] = x;
-    out
-}
-
 // What a write leaves at its key: the number of its transaction, where the table marks writers, else its argument.
 fn left_by(marks: bool, t: usize, argument: usize) -> u16
     requires { ⌜ (t < 65536) × (argument < 65536) ⌝ }
@@ -59,25 +45,30 @@ fn left_by(marks: bool, t: usize, argument: usize) -> u16
     if marks { t as u16 } else { argument as u16 }
 }
 
-// The writes of transaction t are stored.
-fn store(log: &[u8], marks: bool, table: [u16; 32], t: usize) -> [u16; 32]
+// What stands at an operation's key after it: x where it is a write, else what stood there.
+fn kept(o: Body, x: u16, old: u16) -> u16
+    ensures { λ r. ⌜ r ≡ cond (isWrite (asOperation o)) x old ⌝ }
+{
+    if o.kind == 1 { x } else { old }
+}
+
+// The writes of transaction t are stored, in place.
+fn store(log: &[u8], marks: bool, t: usize, out: &mut [u16; 32])
     requires { ⌜ InLog (now log) t ⌝ }
-    ensures { λ r. ⌜ r ≡ storedBy marks (historyOf (now (log .entry))) table t ⌝ }
+    ensures { λ _. ⌜ now (out .exit) ≡ storedBy marks (historyOf (now (log .entry))) (now (out .entry)) t ⌝ }
 {
     let count = log::count(log, t);
-    let mut out = table;
     let mut m: usize = 0;
     while m < count {
         let o = log::operation(log, t, m);
-        let next = put(out, o, left_by(marks, t, o.argument));
-        out = next;
+        let key = o.key;
+        out[key] = kept(o, left_by(marks, t, o.argument), out[key]);
         m += 1;
     }
-    out
 }
 
 // Whether every read is explained in the replay of an order.
-pub fn explains(log: &[u8], order: &[u8]) -> bool
+pub(crate) fn explains(log: &[u8], order: &[u8]) -> bool
     requires { ⌜ (loadNumber (now log) ≡ 0) × T (isOrder (transactionsIn (now log)) (now order)) ⌝ }
     ensures { λ r. ⌜ r ≡ everyReadExplained (historyOf (now (log .entry))) (now (order .entry)) ⌝ }
 {
@@ -88,8 +79,7 @@ pub fn explains(log: &[u8], order: &[u8]) -> bool
         if !reads_agree(log, last, t) {
             return false;
         }
-        let next = store(log, true, last, t);
-        last = next;
+        store(log, true, t, &mut last);
         i += 1;
     }
     true
@@ -103,8 +93,7 @@ pub fn table(log: &[u8], order: &[u8]) -> [u16; 32]
     let mut out = [0u16; 32];
     let mut i: usize = 0;
     while i < order.len() {
-        let next = store(log, false, out, order[i] as usize);
-        out = next;
+        store(log, false, order[i] as usize, &mut out);
         i += 1;
     }
     out

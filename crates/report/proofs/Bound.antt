@@ -13,9 +13,9 @@ use Rattle.model.specs.History.{History, size, finalTable}
 use Rattle.model.specs.Log.{historyOf}
 use Rattle.model.specs.Search.{firstLegal}
 use Rattle.model.proofs.Loaded.{loaded, history-size}
+use Rattle.model.proofs.First.{first-some, legal-length}
 use Rattle.report.specs.Text.{letters, numberText, refusedText, orderText, tableText, foundText}
 use Rattle.report.specs.Judge.{written, decidedText, judgeNumber, judgeText}
-use Rattle.report.proofs.Answers.{legal-length}
 use Rattle.report.proofs.Long.{number-zero}
 use Rattle.report.proofs.Texts.{number-length, order-length, table-length}
 
@@ -28,7 +28,7 @@ found-length o w table few =
 decided-length : (h : History) (answer : Option (List ℕ)) → firstLegal h ≡ answer → size h ≤ 32 → length (decidedText h answer) ≤ 902
 unfolding decidedText
 decided-length h none e few = omega arith
-decided-length h (some o) e few = found-length o (written h) (finalTable h o) (omega (arith, legal-length h o e))
+decided-length h (some o) e few = found-length o (written h) (finalTable h o) (omega (arith, legal-length h o (first-some h o e .0)))
 
 pub judge-length : (b : List ℕ) → length (judgeText b) ≤ 902
 unfolding judgeText refusedText

@@ -1,34 +1,57 @@
 -- Laws of text that grows at its end, and how long each part of Judge's text can be. Assumes nothing.
 use Prim.Native.Nat.{ℕ, zero, suc, _+_, _*_, _/_, _%_, _-_, _≤_, _<_}
-use native.Mathlib.Nat.{min-le-right}
 use native.Mathlib.Omega.{arith}
 use native.Mathlib.Numerals.{add-one}
-use mathlib.Core.Path.{_≡_, refl, sym, ap, subst, _∙_}
+use mathlib.Core.Path.{_≡_, refl, sym, ap, ap₂, subst, _∙_}
 use mathlib.Core.Bool.{Bool, true, false, cond}
-use mathlib.Core.List.{List, [], _∷_, _++_, append-assoc, append-nil}
+use mathlib.Core.List.{List, [], _∷_, _++_, append-assoc}
 use borrow.Author.Tests.{lt-ltb, le-ltb}
 use lib.Dec.{ltb}
-use lib.ListN.{length, getD, set, take, length-append, length-set, length-take}
-use lib.Seq.{take-suc-set, take-suc, take-all, length-take-le}
+use lib.ListN.{length, getD, set, take, drop, length-append, length-set, take-append-drop}
+use lib.Seq.{take-suc, take-all, take-at, drop-at, drop-drop, set-split, length-take-le}
 use Rattle.model.specs.Lists.{each, upTo}
 use Rattle.model.proofs.Loops.{each-snoc}
 use Rattle.report.specs.Text.{letters, digits, numberText, stepText, orderText, keyText, lineIf, tableText, Wrote, Printed}
 
 -- ---- growing
 
-pub wrote-none : (x : List ℕ) (at : ℕ) → Wrote x at [] x at
-wrote-none x at = record { room = refl; count = omega arith; text = sym (append-nil (take at x)) }
+pub wrote-none : (x : List ℕ) (at : ℕ) → at ≤ length x → Wrote x at [] x at
+wrote-none x at l = record { count = omega arith; fits = l; room = refl; whole = sym (take-append-drop at x) }
 
 pub wrote-one : (x : List ℕ) (at b : ℕ) → at < length x → Wrote x at (b ∷ []) (set x at b) (at + 1)
-wrote-one x at b l = record { room = length-set x at b; count = refl; text = ap (λ n. take n (set x at b)) (add-one at) ∙ take-suc-set x at b l }
+wrote-one x at b l = record {
+  count = refl;
+  fits = omega arith;
+  room = length-set x at b;
+  whole = set-split x at b l ∙ ap (λ n. take at x ++ (b ∷ drop n x)) (sym (add-one at));
+}
 
+-- the one law of what is added to what was added
 pub wrote-two : {x : List ℕ} {at : ℕ} {p y : List ℕ} {r : ℕ} {q z : List ℕ} {s : ℕ} → Wrote x at p y r → Wrote y r q z s → Wrote x at (p ++ q) z s
 wrote-two {x} {at} {p} {y} {r} {q} {z} {s} a b =
     record {
-      room = b .room ∙ a .room;
       count = omega (arith, a .count, b .count, length-append p q);
-      text = b .text ∙ ap (λ l. l ++ q) (a .text) ∙ append-assoc (take at x) p q;
+      fits = omega (arith, a .room, b .fits);
+      room = b .room ∙ a .room;
+      whole = b .whole ∙ ap₂ (λ (u v : List ℕ). u ++ (q ++ v)) front behind ∙ append-assoc (take at x) p (q ++ drop s x) ∙ ap (λ (u : List ℕ). take at x ++ u) (sym (append-assoc p q (drop s x)));
     }
+  where
+    parts : y ≡ (take at x ++ p) ++ drop r x
+    parts = a .whole ∙ sym (append-assoc (take at x) p (drop r x))
+
+    long : length (take at x ++ p) ≡ r
+    long = omega (arith, a .count, a .fits, length-append (take at x) p, length-take-le at x (omega (arith, a .count, a .fits)))
+
+    front : take r y ≡ take at x ++ p
+    front = ap (take r) parts ∙ take-at (take at x ++ p) (drop r x) r long
+
+    behind : drop s y ≡ drop s x
+    behind =
+        ap (λ n. drop n y) (b .count)
+        ∙ sym (drop-drop (length q) r y)
+        ∙ ap (drop (length q)) (ap (drop r) parts ∙ drop-at (take at x ++ p) (drop r x) r long)
+        ∙ drop-drop (length q) r x
+        ∙ ap (λ n. drop n x) (sym (b .count))
 
 pub wrote-as : {x : List ℕ} {at : ℕ} {p q y : List ℕ} {r : ℕ} → p ≡ q → Wrote x at p y r → Wrote x at q y r
 wrote-as {x} {at} {p} {q} {y} {r} e w = subst (λ l. Wrote x at l y r) e w
@@ -38,17 +61,16 @@ pub wrote-next : {x : List ℕ} {at : ℕ} {p y : List ℕ} {r : ℕ} {q z : Lis
 wrote-next a b e = wrote-as e (wrote-two a b)
 
 -- what starts at 0 is the whole text
-pub printed : {x p q y : List ℕ} {r : ℕ} → Wrote x 0 p y r → p ≡ q → Printed q y r
-printed {x} {p} {q} {y} {r} w e =
-    let count : r ≡ length (take r y) = omega (arith, w .count, ap length (w .text)) in
-    record {
-      fits = omega (arith, length-take r y, min-le-right r (length y));
-      count = count;
-      whole = w .text ∙ e;
-    }
+pub printed : {x p q y : List ℕ} {r : ℕ} → Wrote x 0 p y r → p ≡ q → Printed q x y r
+printed {x} {p} {q} {y} {r} w e = record {
+  count = omega (arith, w .count, ap length e);
+  fits = omega (arith, w .fits, w .room);
+  part = sym (length-take-le r y (omega (arith, w .fits, w .room)));
+  whole = w .whole ∙ ap (λ (l : List ℕ). l ++ drop r x) e;
+}
 
-pub printed-as : {p q y : List ℕ} {r : ℕ} → Printed p y r → p ≡ q → Printed q y r
-printed-as {p} {q} {y} {r} w e = subst (λ l. Printed l y r) e w
+pub printed-as : {p q x y : List ℕ} {r : ℕ} → Printed p x y r → p ≡ q → Printed q x y r
+printed-as {p} {q} {x} {y} {r} w e = subst (λ l. Printed l x y r) e w
 
 -- ---- one round more of each loop
 

@@ -6,7 +6,7 @@ use mathlib.Core.Path.{_≡_}
 use mathlib.Core.Bool.{Bool, true, false, not, cond}
 use mathlib.Core.List.{List, [], _∷_, _++_}
 use lib.Dec.{eqb, ltb}
-use lib.ListN.{length, getD, take}
+use lib.ListN.{length, getD, take, drop}
 use Rattle.model.specs.Lists.{each, upTo}
 
 -- a text's bytes, one for each letter
@@ -66,23 +66,21 @@ marked writers k = not (eqb (getD writers k 0) 0)
 unfoldable pub foundText : List ℕ → (ℕ → Bool) → List ℕ → List ℕ
 foundText o written table = orderText o ++ tableText written table 32
 
--- an answer by its values: the number that Load gives, whether an order was found, the order, the keys written, the table
-unfoldable pub answerText : ℕ → Bool → List ℕ → (ℕ → Bool) → List ℕ → List ℕ
-answerText number found o written table = cond (eqb number 0) (cond found (foundText o written table) noOrderText) (refusedText number)
-
 -- ---- what the functions leave in a buffer
 
--- `added` was put behind the first `at` bytes of the buffer, and the text now has r bytes
+-- `added` was put behind the first `at` bytes of the buffer, so that the text now has r bytes; these, and those from r on, are as they were
 pub record Wrote (before : List ℕ) (at : ℕ) (added after : List ℕ) (r : ℕ) : Type 0 where
-  pub room : length after ≡ length before
   pub count : r ≡ at + length added
-  pub text : take r after ≡ take at before ++ added
+  pub fits : r ≤ length before
+  pub room : length after ≡ length before
+  pub whole : after ≡ take at before ++ (added ++ drop r before)
 
--- the text stands at the start of the buffer, and has r bytes
-pub record Printed (text after : List ℕ) (r : ℕ) : Type 0 where
+-- the text stands at the start of the buffer, and has r bytes, which a caller may lend; those from r on are as they were
+pub record Printed (text before after : List ℕ) (r : ℕ) : Type 0 where
+  pub count : r ≡ length text
   pub fits : r ≤ length after
-  pub count : r ≡ length (take r after)
-  pub whole : take r after ≡ text
+  pub part : r ≡ length (take r after)
+  pub whole : after ≡ text ++ drop r before
 
 -- ---- what a number's digits are worth: a law says that `decimal` is the number
 

@@ -1,5 +1,5 @@
-// The text that Judge prints, put together in a buffer of 1,024 bytes. Each function adds something behind the first `at` bytes and gives the new
-// length of the text.
+// The text that Judge prints, put together in a buffer. Each function adds something behind the first `at` bytes, leaves all
+// other bytes as they were, and gives the new length of the text.
 ghost use mathlib.Core.Path.{_≡_};
 ghost use mathlib.Core.List.{[], _∷_};
 ghost use mathlib.Core.Bool.{not};
@@ -7,7 +7,7 @@ ghost use lib.Dec.{eqb};
 ghost use Prim.Native.Nat.{_+_, _*_, _<_, _≤_};
 ghost use lib.ListN.{length, take};
 ghost use Rattle.model.specs.Lists.{each};
-ghost use Rattle.report.specs.Text.{digits, numberText, stepText, orderText, keyText, lineIf, tableText, marked, foundText, refusedText, noOrderText, answerText, Wrote, Printed};
+ghost use Rattle.report.specs.Text.{digits, numberText, stepText, orderText, keyText, lineIf, tableText, marked, foundText, refusedText, noOrderText, Wrote};
 
 fn wide(x: u8) -> u16
     ensures { λ r. ⌜ r ≡ x ⌝ }
@@ -121,8 +121,8 @@ fn put_table(out: &mut [u8], at: usize, writers: [u32; 32], table: [u16; 32]) ->
     end
 }
 
-// The text after an order was found: the order, and the table that it leaves.
-fn found_text(
+// The text after an order was found: the order, and the table that it leaves. `writers` has a word for each key, not 0 where some transaction writes it.
+pub fn found_text(
     order: [u8; 32],
     n: usize,
     writers: [u32; 32],
@@ -136,8 +136,8 @@ fn found_text(
     put_table(out, end, writers, table)
 }
 
-// The text of a refusal.
-fn refused_text(number: u8, out: &mut [u8]) -> usize
+// The text of a refusal, with the number that Load or Decide gives.
+pub fn refused_text(number: u8, out: &mut [u8]) -> usize
     requires { ⌜ 1024 ≤ length (now out) ⌝ }
     ensures { λ r. ⌜ Wrote (now (out .entry)) 0 (refusedText number) (now (out .exit)) r ⌝ }
 {
@@ -146,32 +146,9 @@ fn refused_text(number: u8, out: &mut [u8]) -> usize
 }
 
 // The text where there is no order.
-fn none_text(out: &mut [u8]) -> usize
+pub fn none_text(out: &mut [u8]) -> usize
     requires { ⌜ 1024 ≤ length (now out) ⌝ }
     ensures { λ r. ⌜ Wrote (now (out .entry)) 0 noOrderText (now (out .exit)) r ⌝ }
 {
     put_word(out, 0, b"no order\n")
-}
-
-// The text of an answer by its values. `number` is the one that Load gives, 0 where the log was taken; `order` and `table` count where an order was
-// found, and `writers` has a word for each key, not 0 where some transaction writes it.
-pub fn answer_text(
-    number: u8,
-    found: bool,
-    order: [u8; 32],
-    n: usize,
-    writers: [u32; 32],
-    table: [u16; 32],
-    out: &mut [u8; 1024],
-) -> usize
-    requires { ⌜ n ≤ 32 ⌝ }
-    ensures { λ r. ⌜ Printed (answerText number found (take n order) (marked writers) table) (now (out .exit)) r ⌝ }
-{
-    if number != 0 {
-        return refused_text(number, out);
-    }
-    if found {
-        return found_text(order, n, writers, table, out);
-    }
-    none_text(out)
 }

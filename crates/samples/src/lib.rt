@@ -1,7 +1,6 @@
 // What the test programs share: a full log to change bytes of, calls with their answers as numbers, and lines of output.
 use checker::Case;
 use checker::Judgement;
-use checker::Reply;
 use checker::Stage;
 
 pub mod lines;
@@ -9,16 +8,6 @@ pub mod lines;
 // A byte of a list, or 0 past its end.
 pub fn at(s: &[u8], i: usize) -> u8 {
     if i < s.len() { s[i] } else { 0 }
-}
-
-// A case with nothing in it.
-pub fn fresh() -> Case {
-    Case {
-        stage: Stage::Fresh,
-        bytes: [0; 1156],
-        length: 0,
-        order: [0; 32],
-    }
 }
 
 // Byte f of an entry: cabinet t % 16, 8 operations, start 8 * t.
@@ -58,26 +47,29 @@ fn full_byte(i: usize) -> u8 {
     }
 }
 
-// The full log.
-pub fn full() -> [u8; 1156] {
+// Byte i of the full log, or of the numbers 0, 1, 2 and on.
+fn byte_of(log: bool, i: usize) -> u8 {
+    if log { full_byte(i) } else { (i % 256) as u8 }
+}
+
+fn filled(log: bool) -> [u8; 1156] {
     let mut out = [0u8; 1156];
     let mut i: usize = 0;
     while i < 1156 {
-        out[i] = full_byte(i);
+        out[i] = byte_of(log, i);
         i += 1;
     }
     out
 }
 
+// The full log.
+pub fn full() -> [u8; 1156] {
+    filled(true)
+}
+
 // The numbers 0, 1, 2 and on.
 pub fn ascending() -> [u8; 1156] {
-    let mut out = [0u8; 1156];
-    let mut i: usize = 0;
-    while i < 1156 {
-        out[i] = (i % 256) as u8;
-        i += 1;
-    }
-    out
+    filled(false)
 }
 
 // The list with x at place i.
@@ -90,19 +82,11 @@ pub fn with_byte(log: [u8; 1156], i: usize, x: u8) -> [u8; 1156] {
     out
 }
 
-// The number of a reply.
-pub fn reply_number(r: Reply) -> u64 {
-    match r {
-        Reply::Taken => 0,
-        Reply::Refused(n) => n as u64,
-    }
-}
-
 // The number that Load gives.
 pub fn load_number(c: Case, log: &[u8]) -> u64 {
     let a = c.load(log);
     let r = a.reply;
-    reply_number(r)
+    r.number() as u64
 }
 
 // The same of the first n bytes.
@@ -115,12 +99,17 @@ pub fn load_first(c: Case, log: [u8; 1156], n: usize) -> u64 {
 
 // The number that Load gives of the full log with x at place i and y at place j.
 pub fn changed_number(i: usize, x: u8, j: usize, y: u8) -> u64 {
-    load_first(fresh(), with_byte(with_byte(full(), i, x), j, y), 1156)
+    load_first(
+        Case::fresh(),
+        with_byte(with_byte(full(), i, x), j, y),
+        1156,
+    )
 }
 
 // The case that holds a log.
 pub fn loaded(log: &[u8]) -> Case {
-    let a = fresh().load(log);
+    let fresh = Case::fresh();
+    let a = fresh.load(log);
     a.case
 }
 

@@ -19,8 +19,8 @@ use Rattle.model.proofs.Places.{order-out, order-once, order-length, order-inj,
 use Rattle.model.proofs.Topology.{count-append, place-out}
 use Rattle.model.proofs.First.{All-count}
 use Rattle.search.specs.Constraints.{conAt, isOpen, AimedAll}
-use Rattle.search.specs.Steps.{Narrowed, Pruned}
-use Rattle.search.specs.Orders.{Solution, Firsts, Witness, Stage, Picked, Begun, Begins, First}
+use Rattle.search.specs.Steps.{Narrowed, PrunedState}
+use Rattle.search.specs.Orders.{Solution, Firsts, Witness, Progress, Picked, Begun, Begins, First}
 use Rattle.search.proofs.Words.{zero-list}
 use Rattle.search.proofs.Picks.{held-sure, sure-more, witness-order}
 
@@ -70,7 +70,7 @@ module _ (t : ℕ) (w : List ℕ) (n : ℕ) (g : List ℕ) where
   begun-none : (l sel : List ℕ) (set : ℕ) → Begins t w n g l sel set → Begun t w n g [] g l sel set
   begun-none l sel set b =
       record {
-        stage = b .stage;
+        progress = b .progress;
         back = λ o r. r;
         follows = λ o k r. (o, refl);
         leads = λ o k r e. k .known;
@@ -82,12 +82,12 @@ module _ (t : ℕ) (w : List ℕ) (n : ℕ) (g : List ℕ) where
   -- the order of the witness
   some-good : (pre c l sel : List ℕ) (set : ℕ) → Begun t w n g pre c l sel set → (o : List ℕ) × Solution t w n g o × RespectsKnown o c
   some-good pre c l sel set b =
-      let z = witness-order t (b .stage .few) w n (b .stage .aimed) c sel (b .stage .witness) in
-      let r = b .stage .witness .back (z .0) (z .1) (z .2) in
+      let z = witness-order t (b .progress .few) w n (b .progress .aimed) c sel (b .progress .witness) in
+      let r = b .progress .witness .back (z .0) (z .1) (z .2) in
       (z .0, record { order = z .1; known = b .back (z .0) r; keeps = z .3 }, r)
 
   -- where there is a selection, pruning is not stuck
-  not-stuck : t ≤ 32 → AimedAll t w n → (d l sel : List ℕ) → Witness t w n d sel → (stuck : Bool) (c′ l′ : List ℕ) → Pruned w n d l stuck c′ l′ → stuck ≡ false
+  not-stuck : t ≤ 32 → AimedAll t w n → (d l sel : List ℕ) → Witness t w n d sel → (stuck : Bool) (c′ l′ : List ℕ) → PrunedState w n d l stuck c′ l′ → stuck ≡ false
   not-stuck few aimed d l sel y false c′ l′ x = refl
   not-stuck few aimed d l sel y true c′ l′ x =
       let z = witness-order t few w n aimed d sel y in
@@ -111,7 +111,7 @@ module _ (t : ℕ) (w : List ℕ) (n : ℕ) (g : List ℕ) where
     at-v = b .inside v (p .member)
 
     few : t ≤ 32
-    few = b .stage .few
+    few = b .progress .few
 
     -- an order that begins so has its next number before all that is unplaced
     firsts : (o : List ℕ) (k : Next t pre o) → Firsts set (k .x) o
@@ -137,9 +137,9 @@ module _ (t : ℕ) (w : List ℕ) (n : ℕ) (g : List ℕ) where
     shift : (o : List ℕ) (k : Next t pre o) → k .x ≡ v → o ≡ pre′ ++ k .rest
     shift o k e = k .split ∙ ap (λ (y : ℕ). pre ++ (y ∷ k .rest)) e ∙ sym (append-assoc pre (v ∷ []) (k .rest))
 
-    stage′ : Stage t w n c′ l′ sel′
-    stage′ =
-        let st = b .stage in
+    progress′ : Progress t w n c′ l′ sel′
+    progress′ =
+        let st = b .progress in
         let k = p .witness in
         record {
           few = few;
@@ -161,7 +161,7 @@ module _ (t : ℕ) (w : List ℕ) (n : ℕ) (g : List ℕ) where
     begun-next : Begun t w n g pre′ c′ l′ sel′ set′
     begun-next =
         record {
-          stage = stage′;
+          progress = progress′;
           back = λ o r. b .back o (old o (grown o r));
           follows = λ o k r.
               let f = b .follows o k (old o (grown o r)) in
@@ -242,7 +242,7 @@ module _ (t : ℕ) (w : List ℕ) (n : ℕ) (g : List ℕ) where
   -- something is unplaced
   pub filling-open : (k : ℕ) (c l sel : List ℕ) (set₀ : ℕ) (out : List ℕ) → Filling k c l sel set₀ out → k < t → set₀ ≢ 0
   filling-open k c l sel set₀ out f h =
-      unplaced (take k out) c l sel set₀ (f .begun) (omega (arith, take-long k out (f .long) (omega (arith, f .begun .stage .few))))
+      unplaced (take k out) c l sel set₀ (f .begun) (omega (arith, take-long k out (f .long) (omega (arith, f .begun .progress .few))))
 
   take-next : (k v : ℕ) (out : List ℕ) → length out ≡ 32 → k < 32 → take k out ++ (v ∷ []) ≡ take (k + 1) (set out k v)
   take-next k v out e h =
@@ -251,10 +251,10 @@ module _ (t : ℕ) (w : List ℕ) (n : ℕ) (g : List ℕ) where
       ∙ ap (λ (y : ℕ). take k out ++ (y ∷ [])) (getD-set-same out k v 0 (omega arith)))
 
   pub filling-next : (k : ℕ) (c l sel : List ℕ) (set₀ : ℕ) (out : List ℕ) → Filling k c l sel set₀ out → k < t → (v : ℕ) (d sel′ : List ℕ) → Picked t w n c set₀ v d sel′
-      → (stuck : Bool) (c′ l′ : List ℕ) → Pruned w n d l stuck c′ l′ → (set′ : ℕ) → ((y : ℕ) → bit set′ y ≡ (bit set₀ y && not (eqb y v))) → Filling (k + 1) c′ l′ sel′ set′ (set out k v)
+      → (stuck : Bool) (c′ l′ : List ℕ) → PrunedState w n d l stuck c′ l′ → (set′ : ℕ) → ((y : ℕ) → bit set′ y ≡ (bit set₀ y && not (eqb y v))) → Filling (k + 1) c′ l′ sel′ set′ (set out k v)
   filling-next k c l sel set₀ out f h v d sel′ p stuck c′ l′ x set′ cleared =
-      let few = f .begun .stage .few in
-      let y = x .narrowed (not-stuck few (f .begun .stage .aimed) d l sel′ (p .witness) stuck c′ l′ x) in
+      let few = f .begun .progress .few in
+      let y = x .narrowed (not-stuck few (f .begun .progress .aimed) d l sel′ (p .witness) stuck c′ l′ x) in
       record {
         bound = omega arith;
         long = length-set out k v ∙ f .long;
@@ -265,7 +265,7 @@ module _ (t : ℕ) (w : List ℕ) (n : ℕ) (g : List ℕ) where
 
   pub filling-end : (k : ℕ) (c l sel : List ℕ) (set₀ : ℕ) (out : List ℕ) → Filling k c l sel set₀ out → k ≡ t → First t w n g out
   filling-end k c l sel set₀ out f e =
-      let few = f .begun .stage .few in
+      let few = f .begun .progress .few in
       let b = subst (λ (m : ℕ). Begun t w n g (take m out) c l sel set₀) e (f .begun) in
       let r = begun-end (take t out) c l sel set₀ b (take-long t out (f .long) few) in
       record { long = f .long; solves = r .0; lowest = r .1; zeros = λ j h. f .zeros j (omega arith) }

@@ -16,7 +16,7 @@ use Rattle.model.proofs.Pruning.{way-forward}
 use Rattle.model.proofs.Sides.{cyclic-in}
 use Rattle.graph.proofs.Rows.{reach-idem}
 use Rattle.search.specs.Constraints.{conAt, isOpen}
-use Rattle.search.specs.Steps.{PartialOrder, Ready, Pruned, Narrowed, Walked, Hopeless}
+use Rattle.search.specs.Steps.{PartialOrder, Ready, PrunedState, Narrowed, Walked, Hopeless}
 use Rattle.search.specs.Orders.{Sure, First, Answered, Asked, Begins, Lighter}
 use Rattle.search.proofs.Steps.{closed-tidy, no-true, is-true, is-false, way-within}
 use Rattle.search.proofs.Picks.{held-sure, sure-more, opposed-sure}
@@ -55,7 +55,7 @@ module _ (t : ℕ) (w : List ℕ) (n : ℕ) (g : List ℕ) (a : Asked t w n g) (
         pub first-ready : Ready w n c l
         first-ready = record { given = a .given; partial = partial; fit = λ i x. ltb→lt i n (eq-T (all i) x) }
 
-        module _ (stuck : Bool) (d m : List ℕ) (p : Pruned w n c l stuck d m) where
+        module _ (stuck : Bool) (d m : List ℕ) (p : PrunedState w n c l stuck d m) where
           pub first-stuck : stuck ≡ true → (out : List ℕ) → out ≡ replicate 32 0 → Answered t w n g false out
           first-stuck s out z = nothing (p .hopeless s) out z
 
@@ -91,7 +91,7 @@ module _ (t : ℕ) (w : List ℕ) (n : ℕ) (g : List ℕ) (a : Asked t w n g) (
                 first-begins y set k =
                     let z = x .some y in
                     record {
-                      stage =
+                      progress =
                           record {
                             few = a .few;
                             aimed = a .aimed;
@@ -123,3 +123,30 @@ module _ (t : ℕ) (w : List ℕ) (n : ℕ) (g : List ℕ) (a : Asked t w n g) (
                       none = λ y. no-true (sym y);
                       zeros = λ y. no-true (sym y);
                     }
+
+-- ---- closed words in place of those that they close
+
+module _ (t : ℕ) (w : List ℕ) (n : ℕ) (g : List ℕ) (a : Asked t w n g) (c : List ℕ) (e : c ≡ reach g) where
+  pub closed-closed : reach c ≡ c
+  closed-closed = is-closed t w n g a c e
+
+  pub closed-asked : Asked t w n c
+  closed-asked = record {
+    few = a .few;
+    given = a .given;
+    within = subst (λ (x : List ℕ). Within x t) (sym e) (λ u v x. way-within g t (a .within) u v (reach-way g u v x));
+    aimed = a .aimed;
+  }
+
+  -- an order respects them exactly when it respects the words
+  pub closed-answered : (found : Bool) (out : List ℕ) → Answered t w n c found out → Answered t w n g found out
+  closed-answered found out k = record {
+    some = λ y. let z = k .some y in record {
+      long = z .long;
+      solves = record { order = z .solves .order; known = back t w n g a c e (take t out) (z .solves .known); keeps = z .solves .keeps };
+      lowest = λ o s. z .lowest o (record { order = s .order; known = into t w n g a c e o (s .known); keeps = s .keeps });
+      zeros = z .zeros;
+    };
+    none = λ y o s. k .none y o (record { order = s .order; known = into t w n g a c e o (s .known); keeps = s .keeps });
+    zeros = k .zeros;
+  }

@@ -18,9 +18,10 @@ use Rattle.model.proofs.Basics.{clash, decide, same?, eq-T, false-eq, iff-eq, a
 use Rattle.model.proofs.Masks.{bit-none}
 use Rattle.model.proofs.Closed.{fewer, fewer-at}
 use Rattle.search.specs.Constraints.{conAt, isOpen, openCount, Fit, Dropped}
-use Rattle.search.specs.Steps.{PartialOrder, shut, Last, Taken, Grown, Narrowed, Pruned, NextOpen, HitIn, NextHit, NextChoice}
+use Rattle.search.specs.Steps.{PartialOrder, shut, Last, Taken, Grown, Narrowed, PrunedState, NextOpen, HitIn, NextHit, NextChoice}
 use Rattle.search.proofs.Exact.{Run, run-none, run-next, run-stuck, run-again, run-end}
-use Rattle.search.proofs.Words.{zero-list, and-not, low-set, low-none, low-small}
+use Rattle.graph.proofs.WordLaws.{and-not}
+use Rattle.search.proofs.Words.{zero-list, low-set, low-none, low-small}
 use Rattle.search.proofs.Steps.{no-true, grown-none, grown-then, held-more, forced, forced-none}
 
 open-at : (l : List ℕ) (w b : ℕ) → b < 32 → isOpen l (w * 32 + b) ≡ bit (getD l w 0) b
@@ -279,7 +280,7 @@ module _ (w : List ℕ) (n : ℕ) where
                 (λ (b : n ≤ j). absurd (omega (arith, fit j (all .fewer j o)))) y;
           }
 
-      pub pruning-stuck : T (closedOff d from to) → Pruned w n c l true d m
+      pub pruning-stuck : T (closedOff d from to) → PrunedState w n c l true d m
       pruning-stuck q =
           record {
             narrowed = λ r. no-true (sym r);
@@ -308,7 +309,7 @@ module _ (w : List ℕ) (n : ℕ) where
             seen = λ j o y a. ⊎-elim (λ (b : j < 0). absurd (omega arith)) (λ (b : again ≤ j). none-left j o b) y;
           }
 
-      pub pruning-end : again ≡ 0 → Pruned w n c l false d m
+      pub pruning-end : again ≡ 0 → PrunedState w n c l false d m
       pruning-end e =
           record {
             narrowed = λ q. g .narrowed;

@@ -21,7 +21,7 @@ use Rattle.model.proofs.Sides.{cyclic-out}
 use Rattle.search.specs.Constraints.{conAt, isOpen, Keeps, AimedAll}
 use Rattle.search.specs.Steps.{Ready, Walked}
 use Rattle.model.specs.declared.Constraint.{Constraint}
-use Rattle.search.specs.Orders.{Sure, opposed, Under, Placed, Witness, Stage, Never, Below, Picked}
+use Rattle.search.specs.Orders.{Sure, opposed, Under, Placed, Witness, Progress, Never, Below, Picked}
 use Rattle.graph.proofs.Rows.{bit-below}
 use Rattle.search.proofs.Words.{Scan, scan-before, scan-none, scan-low, scan-next, low-set}
 use Rattle.search.proofs.Steps.{closed-tidy, held-out}
@@ -103,7 +103,7 @@ least (suc t) p f x h a =
 
 -- ---- some number can come next in the selection too
 
-module _ (t : ℕ) (w : List ℕ) (n : ℕ) (c l sel : List ℕ) (g : Stage t w n c l sel) (set : ℕ) (small : set < 2 ^ 32) (low : Below set t) where
+module _ (t : ℕ) (w : List ℕ) (n : ℕ) (c l sel : List ℕ) (g : Progress t w n c l sel) (set : ℕ) (small : set < 2 ^ 32) (low : Below set t) where
   -- nothing of the set precedes the first of the set in an order that respects the words
   first-under : (d : List ℕ) (r : ℕ) → Within d t → Under d set 32 r → (o : List ℕ) → RespectsKnown o d → (x : ℕ) → ((z : ℕ) → z < t → T (bit set z) → place x o ≤ place z o) → T (not (bit r x))
   first-under d r wi u o k x f =
@@ -177,7 +177,7 @@ module _ (t : ℕ) (w : List ℕ) (n : ℕ) (c l sel : List ℕ) (g : Stage t w 
 -- ---- the loop over the candidates: m has those that are left, `free` the lowest that the selection allows too
 
 pub record Picking (t : ℕ) (w : List ℕ) (n : ℕ) (c l sel : List ℕ) (set under over cand free m : ℕ) : Type 0 where
-  pub stage : Stage t w n c l sel
+  pub progress : Progress t w n c l sel
   pub small : set < 2 ^ 32
   pub low : Below set t
   pub un : Under c set 32 under
@@ -188,14 +188,14 @@ pub record Picking (t : ℕ) (w : List ℕ) (n : ℕ) (c l sel : List ℕ) (set 
   pub scan : Scan (Never w n c set) cand m
   pub stays : T (bit m free)
 
-pub picking-none : (t : ℕ) (w : List ℕ) (n : ℕ) (c l sel : List ℕ) → Stage t w n c l sel → (set : ℕ) → set < 2 ^ 32 → Below set t → set ≢ 0 → (under over : ℕ) → Under c set 32 under → Under sel set 32 over
+pub picking-none : (t : ℕ) (w : List ℕ) (n : ℕ) (c l sel : List ℕ) → Progress t w n c l sel → (set : ℕ) → set < 2 ^ 32 → Below set t → set ≢ 0 → (under over : ℕ) → Under c set 32 under → Under sel set 32 over
     → (cand : ℕ) → cand < 2 ^ 32 → ((x : ℕ) → bit cand x ≡ (bit set x && not (bit under x))) → (r : ℕ) → r < 2 ^ 32 → ((x : ℕ) → bit r x ≡ (bit cand x && not (bit over x)))
     → Picking t w n c l sel set under over cand (trailingZeros 32 r) cand
 picking-none t w n c l sel g set small low ne under over u v cand cand-small is-cand r r-small is-r =
     let x = trailingZeros 32 r in
     let b = eq-T (is-r x) (low-set r (some-free t w n c l sel g set small low ne under over u v cand is-cand r is-r) r-small) in
     record {
-      stage = g;
+      progress = g;
       small = small;
       low = low;
       un = u;
@@ -228,7 +228,7 @@ module _ (t : ℕ) (w : List ℕ) (n : ℕ) (c l sel : List ℕ) (set under over
   -- those below it can't come next
   lower-never : (v : ℕ) → v ≤ trailingZeros 32 m → (x : ℕ) → x < v → T (bit set x) → Never w n c set x
   lower-never v h x k b =
-      ⊎-elim (λ q. never-under t w n c l sel (p .stage) set (p .small) (p .low) under (p .un) x q)
+      ⊎-elim (λ q. never-under t w n c l sel (p .progress) set (p .small) (p .low) under (p .un) x q)
       (λ q. scan-before (Never w n c set) cand m (p .scan) x (omega arith) (eq-T (sym (p .is-cand x)) (and-in (bit set x) (not (bit under x)) b q)))
       (decide (bit under x))
 
@@ -239,13 +239,13 @@ module _ (t : ℕ) (w : List ℕ) (n : ℕ) (c l sel : List ℕ) (set under over
       record {
         member = k .1;
         placed = x;
-        witness = free-witness t w n c l sel (p .stage) set (p .small) (p .low) free (k .3) d x e y;
+        witness = free-witness t w n c l sel (p .progress) set (p .small) (p .low) free (k .3) d x e y;
         lowest = lower-never free h;
       }
 
   module _ (d : List ℕ) (x : Placed c set (trailingZeros 32 m) d) where
     pub picking-ready : Ready w n d l
-    picking-ready = ready-after t w n c l sel (p .stage) set (p .small) (p .low) (trailingZeros 32 m) (candidate (trailingZeros 32 m) lowest-cand .3) d x
+    picking-ready = ready-after t w n c l sel (p .progress) set (p .small) (p .low) (trailingZeros 32 m) (candidate (trailingZeros 32 m) lowest-cand .3) d x
 
     -- a walk says yes
     pub picked-walk : (found : Bool) (e : List ℕ) → Walked w n d l found e → found ≡ true → Picked t w n c set (trailingZeros 32 m) d e
@@ -254,7 +254,7 @@ module _ (t : ℕ) (w : List ℕ) (n : ℕ) (c l sel : List ℕ) (set under over
         record {
           member = k .1;
           placed = x;
-          witness = walk-witness t w n c l sel (p .stage) set (p .small) (p .low) (trailingZeros 32 m) (k .3) d x e (subst (λ (b : Bool). Walked w n d l b e) q y);
+          witness = walk-witness t w n c l sel (p .progress) set (p .small) (p .low) (trailingZeros 32 m) (k .3) d x e (subst (λ (b : Bool). Walked w n d l b e) q y);
           lowest = lower-never (trailingZeros 32 m) (omega arith);
         }
 
@@ -265,7 +265,7 @@ module _ (t : ℕ) (w : List ℕ) (n : ℕ) (c l sel : List ℕ) (set under over
         let k = candidate (trailingZeros 32 m) lowest-cand in
         let ne : free ≢ trailingZeros 32 m = omega arith in
         record {
-          stage = p .stage;
+          progress = p .progress;
           small = p .small;
           low = p .low;
           un = p .un;
@@ -273,6 +273,6 @@ module _ (t : ℕ) (w : List ℕ) (n : ℕ) (c l sel : List ℕ) (set under over
           is-cand = p .is-cand;
           free-in = p .free-in;
           free-over = p .free-over;
-          scan = scan-next (Never w n c set) cand m (p .scan) left-over (walk-never t w n c l sel (p .stage) set (p .small) (p .low) (trailingZeros 32 m) (k .3) d x e (subst (λ (b : Bool). Walked w n d l b e) q y)) r less is-r;
+          scan = scan-next (Never w n c set) cand m (p .scan) left-over (walk-never t w n c l sel (p .progress) set (p .small) (p .low) (trailingZeros 32 m) (k .3) d x e (subst (λ (b : Bool). Walked w n d l b e) q y)) r less is-r;
           stays = eq-T (sym (is-r free)) (and-in (bit m free) (not (eqb free (trailingZeros 32 m))) (p .stays) (ne-eqb {m = free} {n = trailingZeros 32 m} ne));
         }

@@ -1,15 +1,17 @@
 -- Taking a side over closed row words, and how the steps of pruning go together. Assumes nothing.
-use Prim.Native.Nat.{ℕ, _<_}
+use Prim.Native.Nat.{ℕ, _+_, _*_, _<_, _≤_}
+use native.Mathlib.Omega.{arith}
 use mathlib.Core.Path.{_≡_, refl, sym, ap₂, subst, _∙_}
 use mathlib.Core.Logic.{_⊎_, inl, inr, ⊎-elim}
 use mathlib.Core.Bool.{Bool, true, false, not, _&&_, _||_}
 use mathlib.Core.List.{List}
 use lib.Dec.{T, eqb}
+use lib.ListN.{length}
 use Rattle.model.specs.Lists.{implies, bit}
 use Rattle.model.specs.Polygraph.{has, withSide, reach, closedOff, Way, Acyclic, RespectsKnown, RespectsSide}
 use Rattle.model.specs.declared.Constraint.{Constraint}
 use Rattle.model.specs.RowWords.{Tidy, Within, sideIn, held}
-use Rattle.model.proofs.Basics.{clash, not-intro, true-eq, false-eq, and-in, or-out, or-l, or-r, eq-eqb, implies-out, implies-in, all-upTo-out, all-upTo-in, any-upTo-in}
+use Rattle.model.proofs.Basics.{clash, not-intro, true-eq, and-in, or-out, or-l, or-r, eq-eqb, implies-out, implies-in, all-upTo-out, all-upTo-in, any-upTo-in}
 use Rattle.model.proofs.Reach.{way-join, way-small, way-reach, reach-way, reach-old}
 use Rattle.model.proofs.Pruning.{way-forward, side-in, side-within, closed}
 use Rattle.model.proofs.Closed.{old-edge, side-way}
@@ -68,17 +70,6 @@ pub held-more : (c d : List ℕ) (k : Constraint) → ((u v : ℕ) → T (has c 
 held-more c d k m x =
     ⊎-elim (λ a. held-A d k (side-more c d (k .fromA) (k .toA) m a)) (λ a. held-B d k (side-more c d (k .fromB) (k .toB) m a)) (held-out c k x)
 
-pub side-yes : (d : List ℕ) (from to : ℕ) → ((s : ℕ) → T (bit from s) → T (has d s to)) → true ≡ sideIn d from to
-unfolding sideIn
-side-yes d from to f =
-    sym (true-eq (sideIn d from to) (all-upTo-in (λ s. implies (bit from s) (has d s to)) 32 (λ s h. implies-in (bit from s) (has d s to) (f s))))
-
-pub side-no : (d : List ℕ) (from to s : ℕ) → s < 32 → T (bit from s) → T (not (has d s to)) → false ≡ sideIn d from to
-unfolding sideIn
-side-no d from to s h b n =
-    sym (false-eq (sideIn d from to)
-    (not-intro (sideIn d from to) (λ t. clash (has d s to) (implies-out (bit from s) (has d s to) (all-upTo-out (λ s. implies (bit from s) (has d s to)) 32 t s h) b) n)))
-
 -- one side after the other
 pub held-first : (d : List ℕ) (k : Constraint) (a : Bool) → a ≡ sideIn d (k .fromA) (k .toA) → a ≡ true → true ≡ held d k
 held-first d k a e q = sym (true-eq (held d k) (held-A d k (is-true a (sideIn d (k .fromA) (k .toA)) e q)))
@@ -117,6 +108,10 @@ pub shut-other : (c : List ℕ) (k : Constraint) → T (shut c k) → T (not (cl
 unfolding shut
 shut-other c k t n =
     ⊎-elim (λ a. absurd (clash (closedOff c (k .fromA) (k .toA)) a n)) (λ b. b) (or-out (closedOff c (k .fromA) (k .toA)) (closedOff c (k .fromB) (k .toB)) t)
+
+-- constraint i is there
+pub room-at : (w : List ℕ) (n i : ℕ) → Given w n → i < n → 4 * i + 4 ≤ length w
+room-at w n i g h = omega (arith, g .there)
 
 -- the targets of constraint i
 pub nodes-of : (w : List ℕ) (n i : ℕ) (k : Constraint) → Given w n → i < n → k ≡ conAt w i → (k .toA < 32) × (k .toB < 32)

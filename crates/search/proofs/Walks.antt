@@ -11,12 +11,12 @@ use Rattle.model.specs.declared.Constraint.{Constraint}
 use Rattle.model.specs.RowWords.{Within, Aimed, sideIn, held}
 use Rattle.model.proofs.Basics.{clash, decide, same?, not-intro}
 use Rattle.search.specs.Constraints.{conAt, Given, AimedAll, isOpen, Fit, Dropped}
-use Rattle.search.specs.Steps.{shut, Taken, Narrowed, Pruned, Ready, Chosen, Walked, NextChoice, openPairs}
+use Rattle.search.specs.Steps.{shut, Taken, Narrowed, PrunedState, Ready, Chosen, Walked, NextChoice, openPairs}
 use Rattle.search.proofs.Steps.{no-true, held-A, held-B, held-more, shut-A, shut-B, nodes-of}
 use Rattle.search.proofs.Opens.{drop-fewer, drop-stays}
 use Rattle.search.proofs.Pairs.{side-falls}
 
-module _ (w : List ℕ) (n : ℕ) (c l : List ℕ) (stuck : Bool) (d m : List ℕ) (x : Pruned w n c l stuck d m) where
+module _ (w : List ℕ) (n : ℕ) (c l : List ℕ) (stuck : Bool) (d m : List ℕ) (x : PrunedState w n c l stuck d m) where
   pub walk-stuck : stuck ≡ true → (e : List ℕ) → Walked w n c l false e
   walk-stuck q e = record { some = λ r. no-true r; none = λ r. x .hopeless q }
 

@@ -1,5 +1,5 @@
 -- Words of 32 bits: the lowest bit, a word without a bit or without its low bits, and a loop over the bits of a set. Assumes nothing.
-use Prim.Native.Nat.{ℕ, zero, suc, _+_, _*_, _-_, _/_, _%_, _^_, _≤_, _<_, min}
+use Prim.Native.Nat.{ℕ, zero, suc, _+_, _*_, _-_, _/_, _%_, _^_, _≤_, _<_}
 use native.Mathlib.Omega.{arith}
 use native.Mathlib.Nat.{div-div-eq-div-mul, pow-succ', mul-left-comm}
 use lib.Pow.{pow-add, pow-pos}
@@ -15,7 +15,7 @@ use Rattle.model.specs.Lists.{all, bit}
 use Rattle.model.proofs.Basics.{clash, decide, same?, eq-T, true-eq, false-eq, iff-eq, and-l, and-r, and-in, ne-eqb, not-intro}
 use Rattle.model.proofs.Masks.{bit-low, bit-half, bit-none}
 use Rattle.graph.specs.Masks.{without}
-use Rattle.graph.proofs.WordLaws.{lowest, bit-without}
+use Rattle.graph.proofs.WordLaws.{lowest, bit-without, and-not, and-none}
 
 -- ---- the lowest bit
 
@@ -29,60 +29,6 @@ pub low-none : (m b : ℕ) → m < 2 ^ 32 → b < trailingZeros 32 m → T (not 
 low-none m b l h =
     subst (λ (x : Bool). T (not x))
     (sym (⊎-elim (λ (e : m ≡ 0). ap (λ (x : ℕ). bit x b) e ∙ bit-none b) (λ (e : m ≢ 0). lowest 32 m l e .clear b h) (same? m 0))) tt
-
-pub positive : (m : ℕ) → m ≢ 0 → 0 < m
-positive zero f = absurd (f refl)
-positive (suc m) f = omega arith
-
-pub and-not : (a : Bool) → a ≡ (a && not false)
-and-not true = refl
-and-not false = refl
-
-and-none : (a : Bool) → false ≡ (a && not true)
-and-none true = refl
-and-none false = refl
-
--- it is taken away
-pub low-cleared : (k m s : ℕ) → m ≢ 0 → m < 2 ^ k → bit (bitAnd m (m - 1)) s ≡ (bit m s && not (eqb s (trailingZeros k m)))
-unfolding trailingZeros
-low-cleared zero m s h l = absurd (h (omega arith))
-low-cleared (suc k) m s h l = go (m % 2) refl s (λ q s. low-cleared k (m / 2) s (λ e. h (omega arith)) (omega arith))
-  where
-    even : m % 2 ≡ 0 → bitAnd m (m - 1) ≡ bitAnd (m / 2) (m / 2 - 1) * 2
-    even e =
-        let a : (m - 1) / 2 ≡ m / 2 - 1 = omega (arith, positive m h) in
-        let b : (m - 1) % 2 ≡ 1 = omega (arith, positive m h) in
-        and-step m (m - 1) ∙ ap₂ (λ (x y : ℕ). bitAnd (m / 2) x * 2 + min (m % 2) y) a b ∙ omega arith
-
-    odd : m % 2 ≡ 1 → bitAnd m (m - 1) ≡ m / 2 * 2
-    odd e =
-        let a : (m - 1) / 2 ≡ m / 2 = omega arith in
-        let b : (m - 1) % 2 ≡ 0 = omega arith in
-        and-step m (m - 1) ∙ ap₂ (λ (x y : ℕ). bitAnd (m / 2) x * 2 + min (m % 2) y) a b ∙ ap (λ (x : ℕ). x * 2 + min (m % 2) 0) (and-self (m / 2)) ∙ omega arith
-
-    -- bits of twice a number
-    first : (x : ℕ) → bit (x * 2) 0 ≡ false
-    first x = let e : x * 2 % 2 ≡ 0 = omega arith in bit-low (x * 2) ∙ ap (λ (y : ℕ). eqb y 1) e
-
-    later : (x s : ℕ) → bit (x * 2) (suc s) ≡ bit x s
-    later x s = let e : x * 2 / 2 ≡ x = omega arith in bit-half (x * 2) s ∙ ap (λ (y : ℕ). bit y s) e
-
-    no-first : m % 2 ≡ 0 → (b : Bool) → false ≡ (bit m 0 && not b)
-    no-first e b = sym (ap (λ (x : Bool). x && not b) (bit-low m ∙ ap (λ (y : ℕ). eqb y 1) e))
-
-    go : (r : ℕ) → m % 2 ≡ r → (s : ℕ) → (m % 2 ≡ 0 → (s : ℕ) → bit (bitAnd (m / 2) (m / 2 - 1)) s ≡ (bit (m / 2) s && not (eqb s (trailingZeros k (m / 2)))))
-        → bit (bitAnd m (m - 1)) s ≡ (bit m s && not (eqb s (under r (trailingZeros k (m / 2)))))
-    go zero e zero f = ap (λ (x : ℕ). bit x 0) (even e) ∙ first (bitAnd (m / 2) (m / 2 - 1)) ∙ no-first e (eqb 0 (suc (trailingZeros k (m / 2))))
-    go zero e (suc s) f =
-        ap (λ (x : ℕ). bit x (suc s)) (even e) ∙ later (bitAnd (m / 2) (m / 2 - 1)) s ∙ f e s
-        ∙ ap₂ (λ (x y : Bool). x && not y) (sym (bit-half m s)) (sym (eqb·suc-suc s (trailingZeros k (m / 2))))
-    go (suc r) e zero f =
-        let o : m % 2 ≡ 1 = omega arith in
-        ap (λ (x : ℕ). bit x 0) (odd o) ∙ first (m / 2) ∙ and-none (bit m 0)
-    go (suc r) e (suc s) f =
-        let o : m % 2 ≡ 1 = omega arith in
-        ap (λ (x : ℕ). bit x (suc s)) (odd o) ∙ later (m / 2) s ∙ sym (bit-half m s) ∙ and-not (bit m (suc s))
-        ∙ ap (λ (x : Bool). bit m (suc s) && not x) (sym (eqb·suc-zero s))
 
 -- what `without` of graph says, bit by bit
 pub one-less : (m v r : ℕ) → r ≡ without m v → (s : ℕ) → bit r s ≡ (bit m s && not (eqb s v))

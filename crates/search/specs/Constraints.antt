@@ -1,5 +1,6 @@
 -- Constraints as one list of words, four a constraint, and the set of those that are open, as words of 32 bits. Assumes nothing.
 --     conAt w i          the constraint at i: word 4 i is side A's sources, 4 i + 1 its target, 4 i + 2 and 4 i + 3 the same of side B
+--     withWords w i c   the words with the constraint c at i
 --     listOf w n         the first n of them, as the model's list
 --     isOpen l i         constraint i is open
 --     openCount l n      how many of the first n are
@@ -8,7 +9,7 @@ use mathlib.Core.Path.{_≡_}
 use mathlib.Core.Bool.{Bool, not, _&&_}
 use lib.Dec.{T, eqb}
 use mathlib.Core.List.{List, map}
-use lib.ListN.{length, getD}
+use lib.ListN.{length, getD, set}
 use Rattle.model.specs.Lists.{bit, keep, upTo}
 use Rattle.model.specs.Polygraph.{RespectsOne}
 use Rattle.model.specs.declared.Constraint.{Constraint}
@@ -17,6 +18,9 @@ use Rattle.model.specs.RowWords.{Aimed}
 abbrev pub conAt : List ℕ → ℕ → Constraint
 conAt w i =
     record { fromA = getD w (4 * i) 0; toA = getD w (4 * i + 1) 0; fromB = getD w (4 * i + 2) 0; toB = getD w (4 * i + 3) 0 }
+
+unfoldable pub withWords : List ℕ → ℕ → Constraint → List ℕ
+withWords w i c = set (set (set (set w (4 * i) (c .fromA)) (4 * i + 1) (c .toA)) (4 * i + 2) (c .fromB)) (4 * i + 3) (c .toB)
 
 unfoldable pub listOf : List ℕ → ℕ → List Constraint
 listOf w n = map (conAt w) (upTo n)

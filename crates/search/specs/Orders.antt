@@ -64,7 +64,7 @@ pub record Witness (t : ℕ) (w : List ℕ) (n : ℕ) (c sel : List ℕ) : Type 
   pub sure : (i : ℕ) → i < n → Sure t sel (conAt w i)
 
 -- what is kept from place to place: constraints that are not open are settled, and there is a selection
-pub record Stage (t : ℕ) (w : List ℕ) (n : ℕ) (c l sel : List ℕ) : Type 0 where
+pub record Progress (t : ℕ) (w : List ℕ) (n : ℕ) (c l sel : List ℕ) : Type 0 where
   pub few : t ≤ 32
   pub aimed : AimedAll t w n
   pub ready : Ready w n c l
@@ -89,7 +89,7 @@ pub record Picked (t : ℕ) (w : List ℕ) (n : ℕ) (c : List ℕ) (set v : ℕ
 
 -- the numbers `pre` are placed: the solutions that respect c are those that begin with them, and no solution is lower
 pub record Begun (t : ℕ) (w : List ℕ) (n : ℕ) (g pre c l sel : List ℕ) (set : ℕ) : Type 0 where
-  pub stage : Stage t w n c l sel
+  pub progress : Progress t w n c l sel
   pub back : (o : List ℕ) → RespectsKnown o c → RespectsKnown o g
   pub follows : (o : List ℕ) → Solution t w n g o → RespectsKnown o c → (r : List ℕ) × (o ≡ pre ++ r)
   pub leads : (o : List ℕ) → Solution t w n g o → (r : List ℕ) → o ≡ pre ++ r → RespectsKnown o c
@@ -99,7 +99,7 @@ pub record Begun (t : ℕ) (w : List ℕ) (n : ℕ) (g pre c l sel : List ℕ) (
 
 -- what the places are filled from: nothing is placed
 pub record Begins (t : ℕ) (w : List ℕ) (n : ℕ) (c l sel : List ℕ) (set : ℕ) : Type 0 where
-  pub stage : Stage t w n c l sel
+  pub progress : Progress t w n c l sel
   pub inside : (x : ℕ) → T (bit set x) → x < t
   pub whole : (x : ℕ) → x < t → T (bit set x)
 

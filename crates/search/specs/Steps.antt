@@ -58,7 +58,7 @@ pub record Passed (w : List ℕ) (n : ℕ) (q : Polygraph) (stuck : Bool) (d m :
   pub cycle : stuck ≡ true → T (cyclic (q .known))
 
 -- what pruning comes to: no open constraint has a side closed off, or no order respects all
-pub record Pruned (w : List ℕ) (n : ℕ) (c l : List ℕ) (stuck : Bool) (d m : List ℕ) : Type 0 where
+pub record PrunedState (w : List ℕ) (n : ℕ) (c l : List ℕ) (stuck : Bool) (d m : List ℕ) : Type 0 where
   pub narrowed : stuck ≡ false → Narrowed w n c l d m
   pub done : stuck ≡ false → (i : ℕ) → T (isOpen m i) → T (not (shut d (conAt w i)))
   pub hopeless : stuck ≡ true → Hopeless w n c

@@ -5,15 +5,18 @@
 ghost use mathlib.Core.Path.{_≡_};
 ghost use mathlib.Core.Bool.{true, false, not, _&&_};
 ghost use Prim.Native.Nat.{ℕ, _+_, _*_, _-_, _<_, _≤_};
-ghost use lib.Dec.{T, eqb, ltb};
-ghost use lib.Count.{trailingZeros};
+ghost use lib.Dec.{T, ltb};
 ghost use Rattle.model.specs.Lists.{bit};
 ghost use Rattle.model.specs.Polygraph.{reach, closedOff};
-ghost use Rattle.model.specs.RowWords.{sideIn, «held»};
-ghost use Rattle.search.specs.Constraints.{conAt, isOpen, Given, Fit, Dropped};
-ghost use Rattle.search.specs.Steps.{PartialOrder, «shut», Taken, Last, Pruned, Ready, Walked, NextOpen, HitIn, NextHit, NextChoice};
+ghost use Rattle.model.specs.RowWords.{«held»};
+ghost use lib.ListN.{length};
+ghost use Rattle.search.specs.Constraints.{conAt, withWords, isOpen, Given, Fit, Dropped};
+ghost use Rattle.search.specs.Steps.{PartialOrder, «shut», Taken, Last, PrunedState, Ready, Walked, NextOpen, HitIn, NextHit, NextChoice};
+use model::Constraint;
 
 pub mod order;
+
+use graph::mask::clear_low;
 
 // Closed row words after pruning; or `stuck`: some constraint has both sides closed off.
 pub struct State {
@@ -33,14 +36,6 @@ pub struct Side {
     pub to: u32,
 }
 
-// A word without its lowest bit.
-pub fn clear_low(word: u32) -> u32
-    requires { ⌜ ((word ≡ 0) → ⊥) ⌝ }
-    ensures { λ r. ⌜ (r < word) × ((s : ℕ) → bit r s ≡ (bit word s && not (eqb s (trailingZeros 32 word)))) ⌝ }
-{
-    word & (word - 1)
-}
-
 // A word without its bits below s.
 fn bits_from(word: u32, s: u32) -> u32
     requires { ⌜ s < 32 ⌝ }
@@ -49,21 +44,34 @@ fn bits_from(word: u32, s: u32) -> u32
     (word >> s) << s
 }
 
-// Constraint i.
-pub(crate) fn con_at(words: &[u32], i: usize, n: usize) -> model::Constraint
-    requires { ⌜ (i < n) × Given (now words) n ⌝ }
+// Constraint i of the words.
+pub fn constraint_at(words: &[u32], i: usize) -> Constraint
+    requires { ⌜ 4 * i + 4 ≤ length (now words) ⌝ }
     ensures { λ r. ⌜ r ≡ conAt (now (words .entry)) i ⌝ }
 {
-    model::Constraint {
-        fromA: words[4 * i],
-        toA: words[4 * i + 1],
-        fromB: words[4 * i + 2],
-        toB: words[4 * i + 3],
+    let at = 4 * i;
+    Constraint {
+        fromA: words[at],
+        toA: words[at + 1],
+        fromB: words[at + 2],
+        toB: words[at + 3],
     }
 }
 
+// The words with c as constraint i.
+pub fn put_constraint(words: &mut [u32], i: usize, c: Constraint)
+    requires { ⌜ 4 * i + 4 ≤ length (now words) ⌝ }
+    ensures { λ _. ⌜ now (words .exit) ≡ withWords (now (words .entry)) i c ⌝ }
+{
+    let at = 4 * i;
+    words[at] = c.fromA;
+    words[at + 1] = c.toA;
+    words[at + 2] = c.fromB;
+    words[at + 3] = c.toB;
+}
+
 // Whether a constraint has a side closed off.
-fn shut(rows: &[u32; 32], k: model::Constraint) -> bool
+fn shut(rows: &[u32; 32], k: Constraint) -> bool
     requires { ⌜ (k .toA < 32) × (k .toB < 32) × (reach (now rows) ≡ now rows) ⌝ }
     ensures { λ r. ⌜ r ≡ «shut» (now (rows .entry)) k ⌝ }
 {
@@ -78,7 +86,7 @@ fn hit_in(rows: &[u32; 32], words: &[u32], base: usize, set: u32, n: usize) -> u
     let mut m = set;
     while m != 0 {
         let b = u32::trailing_zeros(m);
-        let k = con_at(words, base + b as usize, n);
+        let k = constraint_at(words, base + b as usize);
         if shut(rows, k) {
             return b;
         }
@@ -121,7 +129,7 @@ fn take(rows: [u32; 32], from: u32, to: u32) -> [u32; 32]
 }
 
 // The side that is left of a constraint where one is closed off: B where A is, else A.
-fn last_side(rows: &[u32; 32], k: model::Constraint) -> Side
+fn last_side(rows: &[u32; 32], k: Constraint) -> Side
     requires { ⌜ (k .toA < 32) × (k .toB < 32) × (reach (now rows) ≡ now rows) × T («shut» (now rows) k) ⌝ }
     ensures { λ r. ⌜ Last (now (rows .entry)) k (r .from) (r .to) ⌝ }
 {
@@ -148,9 +156,9 @@ pub(crate) fn drop_at(left: &mut [u32; 128], i: usize)
 
 // Passes until one drops none. A constraint that was looked at after the last drop need not be looked at again,
 // so those from i to `stop` are left, and then those below `again`.
-pub fn prune(rows: [u32; 32], left: &mut [u32; 128], words: &[u32], n: usize) -> State
+pub(crate) fn prune(rows: [u32; 32], left: &mut [u32; 128], words: &[u32], n: usize) -> State
     requires { ⌜ Ready (now words) n rows (now left) ⌝ }
-    ensures { λ r. ⌜ Pruned (now (words .entry)) n rows (now (left .entry)) (r .stuck) (r .rows) (now (left .exit)) ⌝ }
+    ensures { λ r. ⌜ PrunedState (now (words .entry)) n rows (now (left .entry)) (r .stuck) (r .rows) (now (left .exit)) ⌝ }
 {
     let mut c = rows;
     let mut i: usize = 0;
@@ -159,7 +167,7 @@ pub fn prune(rows: [u32; 32], left: &mut [u32; 128], words: &[u32], n: usize) ->
     loop {
         let at = next_hit(&c, left, words, i, stop, n);
         if at < stop {
-            let k = con_at(words, at, n);
+            let k = constraint_at(words, at);
             let side = last_side(&c, k);
             let from = side.from;
             let to = side.to;
@@ -189,31 +197,15 @@ pub fn prune(rows: [u32; 32], left: &mut [u32; 128], words: &[u32], n: usize) ->
     }
 }
 
-// Whether the closed row words have every edge of a side.
-fn side_held(rows: &[u32; 32], from: u32, to: u32) -> bool
-    requires { ⌜ to < 32 ⌝ }
-    ensures { λ r. ⌜ r ≡ sideIn (now (rows .entry)) from to ⌝ }
-{
-    let mut m = from;
-    while m != 0 {
-        let s = u32::trailing_zeros(m);
-        if !graph::has(rows[s as usize], to) {
-            return false;
-        }
-        m = clear_low(m);
-    }
-    true
-}
-
-// Whether they have one side of a constraint whole.
-fn held(rows: &[u32; 32], k: model::Constraint) -> bool
+// Whether the closed row words have one side of a constraint whole.
+fn held(rows: &[u32; 32], k: Constraint) -> bool
     requires { ⌜ (k .toA < 32) × (k .toB < 32) ⌝ }
     ensures { λ r. ⌜ r ≡ «held» (now (rows .entry)) k ⌝ }
 {
-    if side_held(rows, k.fromA, k.toA) {
+    if graph::side_held(rows, k.fromA, k.toA) {
         return true;
     }
-    side_held(rows, k.fromB, k.toB)
+    graph::side_held(rows, k.fromB, k.toB)
 }
 
 // The first open constraint from `from` on, or n.
@@ -244,7 +236,7 @@ fn next_choice(rows: &[u32; 32], left: &[u32; 128], words: &[u32], n: usize) -> 
         if j >= n {
             return n;
         }
-        let k = con_at(words, j, n);
+        let k = constraint_at(words, j);
         if !held(rows, k) {
             return j;
         }
@@ -254,8 +246,8 @@ fn next_choice(rows: &[u32; 32], left: &[u32; 128], words: &[u32], n: usize) -> 
 
 // The walk: whether some order respects the row words and one side of each constraint, where those that are not open are settled.
 // Each choice puts two numbers in order that stood in none, so at most 496 calls stand one in another below the first (`depth` in proofs/Pairs.antt).
-// As compiled a level takes 1,648 bytes of stack.
-pub fn walk(rows: [u32; 32], left: &[u32; 128], words: &[u32], n: usize) -> Selection
+// As compiled a level takes 1,520 bytes of stack.
+pub(crate) fn walk(rows: [u32; 32], left: &[u32; 128], words: &[u32], n: usize) -> Selection
     requires { ⌜ Ready (now words) n rows (now left) ⌝ }
     ensures { λ r. ⌜ Walked (now (words .entry)) n rows (now (left .entry)) (r .found) (r .rows) ⌝ }
 {
@@ -277,7 +269,7 @@ pub fn walk(rows: [u32; 32], left: &[u32; 128], words: &[u32], n: usize) -> Sele
         };
     }
     drop_at(&mut l, i);
-    let k = con_at(words, i, n);
+    let k = constraint_at(words, i);
     let with_a = take(c, k.fromA, k.toA);
     let a = walk(with_a, &l, words, n);
     let found = a.found;

@@ -6,9 +6,11 @@ ghost use Prim.Native.Nat.{ℕ, _+_, _*_, _-_, _<_, _≤_};
 ghost use lib.Bits.{bitOr};
 ghost use lib.Dec.{T, ltb};
 ghost use Rattle.model.specs.Lists.{bit};
+ghost use Rattle.model.specs.Polygraph.{reach};
 ghost use Rattle.search.specs.Constraints.{isOpen, Given, Fit, Dropped};
 ghost use Rattle.search.specs.Steps.{PartialOrder};
-ghost use Rattle.search.specs.Orders.{Under, ledRow, Placed, Stage, Below, Picked, First, Asked, Answered, Begins, opposed, Lighter};
+ghost use Rattle.search.specs.Orders.{Under, ledRow, Placed, Progress, Below, Picked, First, Asked, Answered, Begins, opposed, Lighter};
+use model::Constraint;
 
 // The number that comes next, the row words with it before all unplaced, and those of a selection.
 pub struct Choice {
@@ -85,7 +87,7 @@ fn pick(
     n: usize,
     t: usize,
 ) -> Choice
-    requires { ⌜ Stage t (now words) n rows (now left) sel × Below set t × ((set ≡ 0) → ⊥) ⌝ }
+    requires { ⌜ Progress t (now words) n rows (now left) sel × Below set t × ((set ≡ 0) → ⊥) ⌝ }
     ensures { λ r. ⌜ Picked t (now (words .entry)) n rows set (r .v) (r .rows) (r .sel) ⌝ }
 {
     let under = below(rows, set);
@@ -110,7 +112,7 @@ fn pick(
             let s = a.rows;
             return Choice { rows: d, sel: s, v };
         }
-        m = crate::clear_low(m);
+        m = graph::mask::clear_low(m);
     }
 }
 
@@ -148,7 +150,7 @@ fn fill(
 }
 
 // The numbers below t, as a set.
-pub fn numbers(t: u32) -> u32
+fn numbers(t: u32) -> u32
     requires { ⌜ t ≤ 32 ⌝ }
     ensures { λ r. ⌜ ((x : ℕ) → bit r x ≡ ltb x t) ⌝ }
 {
@@ -186,7 +188,7 @@ fn all_open(n: usize) -> [u32; 128]
 }
 
 // Whether a constraint is an edge against the same edge turned round.
-fn opposite(k: model::Constraint) -> bool
+fn opposite(k: Constraint) -> bool
     requires { ⌜ (k .toA < 32) × (k .toB < 32) ⌝ }
     ensures { λ r. ⌜ r ≡ opposed k ⌝ }
 {
@@ -221,26 +223,25 @@ fn lighter(left: [u32; 128], words: &[u32], n: usize) -> [u32; 128]
         if j >= n {
             return l;
         }
-        let k = crate::con_at(words, j, n);
+        let k = crate::constraint_at(words, j);
         drop_if(&mut l, j, opposite(k));
         i = j + 1;
     }
 }
 
-// The first order that respects the row words and one side of each of the first n constraints.
-pub fn first_order(rows: [u32; 32], words: &[u32], n: usize, t: usize) -> Found
-    requires { ⌜ Asked t (now words) n rows ⌝ }
+// The first order that respects closed row words and one side of each of the first n constraints.
+pub fn first_closed(rows: [u32; 32], words: &[u32], n: usize, t: usize) -> Found
+    requires { ⌜ Asked t (now words) n rows × (reach rows ≡ rows) ⌝ }
     ensures { λ r. ⌜ Answered t (now (words .entry)) n rows (r .found) (r .order) ⌝ }
 {
-    let c = graph::closure(rows);
-    if graph::cyclic(c) {
+    if graph::cyclic(rows) {
         return Found {
             found: false,
             order: [0; 32],
         };
     }
     let mut left = all_open(n);
-    let p = crate::prune(c, &mut left, words, n);
+    let p = crate::prune(rows, &mut left, words, n);
     let stuck = p.stuck;
     if stuck {
         return Found {

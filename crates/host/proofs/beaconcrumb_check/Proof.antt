@@ -1,6 +1,6 @@
 -- `host::beaconcrumb_check` meets its contract. Assumes nothing.
-use mathlib.Core.Path.{_≡_, sym, ap, _∙_}
-use Rattle.host.proofs.Taking.{where-refused, refused-number, loads-it, where-taken}
+use mathlib.Core.Path.{ap, _∙_}
+use Rattle.host.proofs.Taking.{refused-number, loads-it, where-taken}
 use Rattle.checker.specs.Calls.{checking}
 use Rattle.host.specs.Codes.{judgementCode, checkCode}
 use borrow.Author.Needs.{needs}
@@ -9,13 +9,16 @@ use Rattle.host.proofs.beaconcrumb_check.Tie as tie
 use Rattle.checker.proofs.Case.check.Reads as check-reads
 use Rattle.host.proofs.judged.Reads as judged-reads
 use Rattle.host.proofs.loaded.Reads as loaded-reads
-use Rattle.host.proofs.number.Reads as number-reads
+use Rattle.answers.proofs.Reply.number.Reads as number-reads
 
 loaded-requires : tie.Need-loaded-requires
 loaded-requires c κs = search needs
 
 number-requires : tie.Need-number-requires
 number-requires c κs = search needs
+
+cast-refused : tie.Need-cast-refused
+cast-refused c = search needs
 
 returns : tie.Need-returns
 unfolding checkCode
@@ -40,4 +43,4 @@ returns-2 c =
 pub beaconcrumb-check-spec : {M : Type 1} → statement M
 beaconcrumb-check-spec =
     tie.close
-    (tie.spec loaded-requires number-requires returns check-requires judged-requires returns-2)
+    (tie.spec loaded-requires number-requires cast-refused returns check-requires judged-requires returns-2)

@@ -1,42 +1,39 @@
 -- `host::beaconcrumb_decide` meets its contract. Assumes nothing.
-use mathlib.Core.Path.{_≡_, sym, ap, _∙_}
+use mathlib.Core.Path.{refl, ap, _∙_}
 use lib.ListN.{length}
+use Rattle.host.specs.Codes.{saidCode, saidOrder, saidTable, decideCode, orderAfter, tableAfter}
 use Rattle.host.proofs.Taking.{where-refused, refused-number, loads-it, where-taken}
-use Rattle.checker.specs.Decisions.{deciding}
-use Rattle.host.specs.Codes.{verdictCode, whereOrdered, roomCode, orderOf, tableOf, decideCode, orderAfter, tableAfter}
+use Rattle.host.proofs.Deciding.{as-decided, found-order}
 use borrow.Author.Needs.{needs}
 use Rattle.host.proofs.beaconcrumb_decide.Statement.{statement}
 use Rattle.host.proofs.beaconcrumb_decide.Tie as tie
+use Rattle.answers.proofs.deciding.decided.Reads as decided-reads
 use Rattle.host.proofs.answered.Reads as answered-reads
-use Rattle.host.proofs.loaded.Reads as loaded-reads
-use Rattle.host.proofs.nothing.Reads as nothing-reads
-use Rattle.host.proofs.number.Reads as number-reads
-use Rattle.lender.proofs.decide.Reads as decide-reads
-
-loaded-requires : tie.Need-loaded-requires
-loaded-requires c κs = search needs
+use Rattle.log.proofs.number.Reads as number-reads
 
 number-requires : tie.Need-number-requires
 number-requires c κs = search needs
 
+cast-refused : tie.Need-cast-refused
+cast-refused c = search needs
+
 returns : tie.Need-returns
 unfolding decideCode orderAfter tableAfter
 returns c =
-    let a = c .before .before .before .before .before .before .args in
-    let is = c .before .number .ensures in
-    let loads = c .before .before .loaded .ensures .0 in (
-      refused-number (a .log .now) _ _ is loads _ (c .if1 .taken),
-      (where-refused (a .log .now) _ _ is loads _ (a .order .now) (c .if1 .taken), where-refused (a .log .now) _ _ is loads _ (a .table .now) (c .if1 .taken)),
+    let a = c .before .before .before .before .before .args in
+    let is = c .before .number .ensures in (
+      refused-number (a .log .now) _ _ is refl _ (c .if1 .taken),
+      (where-refused (a .log .now) _ _ is refl _ (a .order .now) (c .if1 .taken), where-refused (a .log .now) _ _ is refl _ (a .table .now) (c .if1 .taken)),
     )
 
-nothing-requires : tie.Need-nothing-requires
-nothing-requires c κs = search needs
-
-decide-requires : tie.Need-decide-requires
-decide-requires c κs = search needs
+decided-requires : tie.Need-decided-requires
+decided-requires c κs = search needs
 
 answered-requires : tie.Need-answered-requires
-answered-requires c κs = search needs
+answered-requires c κs =
+    let a = c .before .before .before .before .before .before .before .before .before .before .args in
+    let loads = loads-it (a .log .now) _ _ (c .before .before .before .before .before .before .number .ensures) refl (c .before .before .before .before .before .if1 .left) in
+    (loads, found-order (a .log .now) loads (a .encoding) (a .pruning) 4096 _ _ _ (c .before .before .decided .ensures))
 
 same-length : tie.Need-same-length
 same-length c = search needs
@@ -47,16 +44,15 @@ same-length-2 c = search needs
 returns-2 : tie.Need-returns-2
 unfolding decideCode orderAfter tableAfter
 returns-2 c =
-    let a = c .before .before .before .before .before .before .before .before .before .before .before .before .before .before .before .before .args in
+    let a = c .before .before .before .before .before .before .before .before .before .before .before .before .before .before .before .args in
     let is = c .before .before .before .before .before .before .before .before .before .before .before .number .ensures in
-    let loads = c .before .before .before .before .before .before .before .before .before .before .before .before .loaded .ensures in
     let z = c .before .before .before .before .before .before .before .before .before .before .if1 .left in
     let w = c .before .before .before .before .answered .ensures in
-    let d = c .before .before .before .before .before .before .before .decide .ensures ∙ ap (λ k. deciding k (a .encoding) (a .pruning) 4096) (loads .1 (loads-it (a .log .now) _ _ is (loads .0) z)) in (
-      where-taken (a .log .now) _ _ is (loads .0) _ _ _ z (w .0 ∙ ap (λ x. verdictCode (x .verdict) (roomCode (x .case) (length (a .order .now)) (length (a .table .now)))) d),
+    let d = as-decided (a .log .now) (loads-it (a .log .now) _ _ is refl z) (a .encoding) (a .pruning) 4096 _ _ _ (c .before .before .before .before .before .before .before .decided .ensures) in (
+      where-taken (a .log .now) _ _ is refl _ _ _ z (w .0 ∙ ap (λ x. saidCode x (length (a .order .now)) (length (a .table .now))) d),
       (
-        where-taken (a .log .now) _ _ is (loads .0) _ _ _ z (w .1 .0 ∙ ap (λ x. whereOrdered (x .verdict) (orderOf (x .case) (a .order .now) (length (a .table .now))) (a .order .now)) d),
-        where-taken (a .log .now) _ _ is (loads .0) _ _ _ z (w .1 .1 ∙ ap (λ x. whereOrdered (x .verdict) (tableOf (x .case) (length (a .order .now)) (a .table .now)) (a .table .now)) d),
+        where-taken (a .log .now) _ _ is refl _ _ _ z (w .1 .0 ∙ ap (λ x. saidOrder x (a .order .now) (length (a .table .now))) d),
+        where-taken (a .log .now) _ _ is refl _ _ _ z (w .1 .1 ∙ ap (λ x. saidTable x (length (a .order .now)) (a .table .now)) d),
       ),
     )
 
@@ -64,11 +60,10 @@ pub beaconcrumb-decide-spec : {M : Type 1} → statement M
 beaconcrumb-decide-spec =
     tie.close
     (tie.spec
-    loaded-requires
     number-requires
+    cast-refused
     returns
-    nothing-requires
-    decide-requires
+    decided-requires
     answered-requires
     same-length
     same-length-2

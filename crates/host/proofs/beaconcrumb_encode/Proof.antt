@@ -1,5 +1,5 @@
 -- `host::beaconcrumb_encode` meets its contract. Assumes nothing.
-use mathlib.Core.Path.{_≡_, sym, ap, _∙_}
+use mathlib.Core.Path.{ap, _∙_}
 use lib.ListN.{length}
 use Rattle.host.proofs.Taking.{where-refused, refused-number, loads-it, where-taken}
 use Rattle.checker.specs.Encodings.{encodeAnswer}
@@ -9,13 +9,16 @@ use Rattle.host.proofs.beaconcrumb_encode.Statement.{statement}
 use Rattle.host.proofs.beaconcrumb_encode.Tie as tie
 use Rattle.host.proofs.encoded.Reads as encoded-reads
 use Rattle.host.proofs.loaded.Reads as loaded-reads
-use Rattle.host.proofs.number.Reads as number-reads
+use Rattle.answers.proofs.Reply.number.Reads as number-reads
 
 loaded-requires : tie.Need-loaded-requires
 loaded-requires c κs = search needs
 
 number-requires : tie.Need-number-requires
 number-requires c κs = search needs
+
+cast-refused : tie.Need-cast-refused
+cast-refused c = search needs
 
 returns : tie.Need-returns
 unfolding encodeCode encodeAfter
@@ -47,4 +50,4 @@ returns-2 c =
 pub beaconcrumb-encode-spec : {M : Type 1} → statement M
 beaconcrumb-encode-spec =
     tie.close
-    (tie.spec loaded-requires number-requires returns encoded-requires same-length returns-2)
+    (tie.spec loaded-requires number-requires cast-refused returns encoded-requires same-length returns-2)

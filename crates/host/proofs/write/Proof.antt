@@ -1,65 +1,82 @@
 -- `host::write` meets its contract. Assumes nothing.
-use mathlib.Core.Path.{ap, _∙_}
-use Rattle.host.specs.Images.{filled, valueIn}
-use Rattle.host.proofs.Writing.{table-short, order-short, both-written}
+use native.Mathlib.Omega.{arith}
+use mathlib.Core.Path.{_≡_, sym, subst}
+use lib.Dec.{T}
+use lib.ListN.{length, take}
+use lib.Seq.{length-take-le}
+use Rattle.model.specs.History.{isOrder}
+use Rattle.model.specs.Log.{transactionsIn}
+use Rattle.host.specs.Codes.{orderedCase}
+use Rattle.host.proofs.Writing.{table-short}
+use Rattle.host.proofs.Deciding.{no-room, written}
 use borrow.Author.Needs.{needs}
 use Rattle.host.proofs.write.Statement.{statement}
 use Rattle.host.proofs.write.Tie as tie
-use Rattle.checker.proofs.Case.order.Reads as order-reads
-use Rattle.checker.proofs.Case.table.Reads as table-reads
+use Rattle.answers.proofs.copies.copy_bytes.Reads as copy-bytes-reads
 use Rattle.host.proofs.images.put_values.Reads as put-values-reads
-use Rattle.host.proofs.number.Reads as number-reads
+use Rattle.log.proofs.transactions.Reads as transactions-reads
+use Rattle.replay.proofs.tables.table.Reads as table-reads
 
 returns : tie.Need-returns
-returns c = table-short (c .before .before .before .args .c) (c .before .before .before .args .order .now) (c .before .before .before .args .table .now) (c .if1 .taken)
+returns c =
+    let a = c .before .before .before .before .args in
+    table-short (orderedCase (a .log .now) (a .t2)) (a .order .now) (a .table .now) (c .if1 .taken)
 
-order-requires : tie.Need-order-requires
-order-requires c κs = search needs
-
-number-requires : tie.Need-number-requires
-number-requires c κs = search needs
-
-same-length : tie.Need-same-length
-same-length c = search needs
+transactions-requires : tie.Need-transactions-requires
+transactions-requires c κs = search needs
 
 returns-2 : tie.Need-returns-2
 returns-2 c =
-    let a = c .before .before .before .before .before .before .before .before .before .args in
-    order-short (a .c) (a .order .now) (a .table .now) _ _ (c .before .number .ensures ∙ c .before .before .before .before .order .ensures .1 .0) (c .before .before .before .before .order .ensures .1 .1) (c .before .before .before .before .before .before .if1 .left) (c .if2 .taken)
+    let s = c .before .before .before .before .before .before in
+    no-room (s .args .log .now) (s .pre .0) (s .args .t2) (s .pre .1) (s .args .order .now) (s .args .table .now) (c .before .before .if1 .left) _ (c .before .transactions .ensures .0) (c .if2 .taken)
+
+slice-aggregate-copy-bytes : tie.Need-slice-aggregate-copy-bytes
+slice-aggregate-copy-bytes c = search needs
+
+copy-bytes-requires : tie.Need-copy-bytes-requires
+copy-bytes-requires c κs = search needs
+
+array-share-prefix-numbers : tie.Need-array-share-prefix-numbers
+array-share-prefix-numbers c = search needs
 
 slice-aggregate-table : tie.Need-slice-aggregate-table
-slice-aggregate-table c = search needs
+slice-aggregate-table c =
+    let long : length (c .before .before .before .before .before .before .before .before .before .before .before .before .args .t2) ≡ 32 = search needs in
+    sym (length-take-le _ _ (omega (arith, c .before .before .before .before .before .before .before .transactions .ensures .1)))
 
 table-requires : tie.Need-table-requires
-table-requires c κs = search needs
+table-requires c κs =
+    let s = c .before .before .before .before .before .before .before .before .before .before .before .before in
+    (s .pre .0, subst (λ n. T (isOrder (transactionsIn (s .args .log .now)) (take n (s .args .t2)))) (sym (c .before .before .before .before .before .before .before .transactions .ensures .0)) (s .pre .1))
 
 put-values-requires : tie.Need-put-values-requires
 put-values-requires c κs = search needs
 
+same-length : tie.Need-same-length
+same-length c = search needs
+
 same-length-2 : tie.Need-same-length-2
 same-length-2 c = search needs
 
-same-length-3 : tie.Need-same-length-3
-same-length-3 c = search needs
-
 returns-3 : tie.Need-returns-3
 returns-3 c =
-    let a = c .before .before .before .before .before .before .before .before .before .before .before .before .before .before .before .before .before .args in
-    both-written (a .c) (a .order .now) (a .table .now) _ _ (c .before .before .before .before .before .before .before .before .before .number .ensures ∙ c .before .before .before .before .before .before .before .before .before .before .before .before .order .ensures .1 .0) (c .before .before .before .before .before .before .before .before .before .before .before .before .order .ensures .1 .1) (c .before .before .before .before .before .before .before .before .before .before .before .before .before .before .if1 .left) _ (c .before .before .before .before .before .before .before .before .if2 .left)
-    (c .before .before .put-values .ensures ∙ ap (λ v. filled (valueIn v) 32 (a .table .now)) (c .before .before .before .before .before .before .table .ensures .1 .1))
+    let s = c .before .before .before .before .before .before .before .before .before .before .before .before .before .before .before .before .before .before in
+    written (s .args .log .now) (s .pre .0) (s .args .t2) (s .pre .1) (s .args .order .now) (s .args .table .now) (c .before .before .before .before .before .before .before .before .before .before .before .before .before .before .if1 .left) _ (c .before .before .before .before .before .before .before .before .before .before .before .before .before .transactions .ensures .0) _ _ _
+    (c .before .before .before .before .before .before .before .before .before .before .before .before .if2 .left) (c .before .before .before .before .before .before .before .before .before .copy-bytes .ensures) (c .before .before .before .before .before .table .ensures) (c .before .before .put-values .ensures)
 
 pub write-spec : {M : Type 1} → statement M
 write-spec =
     tie.close
     (tie.spec
     returns
-    order-requires
-    number-requires
-    same-length
+    transactions-requires
     returns-2
+    slice-aggregate-copy-bytes
+    copy-bytes-requires
+    array-share-prefix-numbers
     slice-aggregate-table
     table-requires
     put-values-requires
+    same-length
     same-length-2
-    same-length-3
     returns-3)

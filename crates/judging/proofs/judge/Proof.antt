@@ -1,34 +1,56 @@
 -- `judging::judge` meets its contract. Assumes nothing.
-use Rattle.report.proofs.Texts.{printed-as}
-use Rattle.report.proofs.Answers.{answer-refused, answer-decides}
-use Rattle.report.proofs.Long.{refused-only, number-zero}
-use mathlib.Core.Path.{sym, _∙_}
+use Rattle.lender.proofs.Fresh.{fresh-number, fresh-case}
+use Rattle.checker.specs.Calls.{loading}
+use Rattle.checker.specs.Decisions.{deciding}
+use Rattle.report.proofs.Texts.{printed}
+use Rattle.report.proofs.Long.{number-load, refused-only}
+use native.Mathlib.Omega.{arith}
+use mathlib.Core.Path.{refl, sym, ap, _∙_}
 use borrow.Author.Needs.{needs}
 use Rattle.judging.proofs.judge.Statement.{statement}
 use Rattle.judging.proofs.judge.Tie as tie
 
-refusal-requires : tie.Need-refusal-requires
-refusal-requires c κs = search needs
+fresh-requires : tie.Need-fresh-requires
+fresh-requires c κs = search needs
 
-answer-text-requires : tie.Need-answer-text-requires
-answer-text-requires c κs = search needs
+load-requires : tie.Need-load-requires
+load-requires c κs = search needs
+
+number-requires : tie.Need-number-requires
+number-requires c κs = search needs
+
+refused-text-requires : tie.Need-refused-text-requires
+refused-text-requires c κs = search needs
 
 returns : tie.Need-returns
 returns c =
-    printed-as (c .answer-text .ensures)
-    (sym (answer-refused _ _ _ _ _ (c .before .before .if1 .taken)) ∙ sym (refused-only _ _ (sym (c .before .before .before .refusal .ensures)) (c .before .before .if1 .taken)))
+    let number = c .before .before .before .number .ensures ∙ c .before .before .before .before .load .ensures .1 ∙ fresh-number _ _ (c .before .before .before .before .before .fresh .ensures) in
+    let some = c .before .before .if1 .taken in
+    printed (c .refused-text .ensures) (sym (refused-only _ _ (number-load _ _ (sym number) some) some))
+
+decide-requires : tie.Need-decide-requires
+decide-requires c κs = search needs
 
 decided-requires : tie.Need-decided-requires
-decided-requires c κs = number-zero _ (sym (c .before .refusal .ensures) ∙ c .if1 .left)
-
-answer-text-requires-2 : tie.Need-answer-text-requires-2
-answer-text-requires-2 c κs = search needs
+unfolding loading
+decided-requires c κs =
+    let fresh = c .before .before .before .before .before .before .fresh .ensures in
+    let load = c .before .before .before .before .before .load .ensures in
+    let loads = sym (c .before .before .before .before .number .ensures ∙ load .1 ∙ fresh-number _ _ fresh) ∙ c .before .before .before .if1 .left in
+    (loads, c .before .decide .ensures ∙ ap (λ k. deciding k 2 1 4096) (ap (λ r. r .case) (load .0) ∙ fresh-case _ _ fresh loads), omega arith)
 
 returns-2 : tie.Need-returns-2
-returns-2 c =
-    let d = c .before .before .before .before .before .decided .ensures in
-    printed-as (c .answer-text2 .ensures)
-    (answer-decides _ 0 _ _ _ _ _ (sym (c .before .before .before .before .before .before .if1 .left) ∙ c .before .before .before .before .before .before .before .refusal .ensures) (λ z. d .count) (λ z. d .is) (λ z. d .numbers) (λ z. d .left) (d .keys))
+returns-2 c = printed (c .decided .ensures) refl
 
 pub judge-spec : {M : Type 1} → statement M
-judge-spec = tie.close (tie.spec refusal-requires answer-text-requires returns decided-requires answer-text-requires-2 returns-2)
+judge-spec =
+    tie.close
+    (tie.spec
+    fresh-requires
+    load-requires
+    number-requires
+    refused-text-requires
+    returns
+    decide-requires
+    decided-requires
+    returns-2)

@@ -1,23 +1,23 @@
--- `lender::pack` meets its contract: a walk of its MIR, by hand. The list is opened once, before the loop, and closed once, after it; the words are lent to `put` in each turn.
+-- `lender::pack` meets its contract: a walk of its MIR, by hand. The list is opened once, before the loop, and closed once, after it; the words are lent to `search::put_constraint` in each turn.
 --     State            what a turn starts from: the number i and the words so far.        At           the context of a turn.        turns        a turn
 -- Assumes nothing.
-use Rattle.walk.specs.Prelude.{_≡_, refl, _∙_, sym, ap, subst, ℕ, _<_, _≤_, _^_, _*_, _+_, _-_, le-antisymm, arith, WellFounded, InvImage·wf, List, [], _∷_, ltb→lt, nltb→le, lit<, Nat·lt-wfRel, URA, fullShare, Ty, named, erased, mut, w64, tyUnit, tyBool, tyPtr, tyInt, tyRef, Val, vunit, vint, vptr, SProp, ent, sep, Lft, Share, GName, ftrue, fat, froom, fdies, flft, fobs, fauth, fobor, Memory, Routine, afterTurn, Heap, Out, Env, afterSeq, afterBlock, Calls, Loops, Wp, atReturn, WpFn, Tables, Atoms, sem, Fun, tablesOf, givenOf, tables, Given, Item, ‵, _⊛_, runs, anyQ, atRet, Sq, _$_, _∵_, !, qed, by, move, keep, drop, split, join, rewrite, fsplit, fjoin, feqI, suffices, frame, done, look, look-raw, init, store, forget, stop, hop, fld, from, load, lit, unit-lit, of-opd, and-then, no-more, bin, addr, assigns, assigns-last, land, first, skips, jumps, blocks, branches, returns, enter, alloc1, alloc0, params1, pass1, pass0, free1, free0, exec, Below, again, loops, agg, whole, sub, look-in, fmOf, WpFn-mono, owns, Is, shows, pointee, uint-vals, uint-tells, u32, unit, usize, RefT, sliceTy, MutSlice, Room, heres, codedHoleys, slice-vals, mut-slice-tells, Held, row, elem-out, elem-back, nothing, nothing-lawful, onEntry, Meets, tripleOf, Triple, entered, cited, says, needs, Stays, stay-dropped, stay-slice, walkOf, goes-dropped, goes-slice, Walks, ends-at, walked, walk-meets, yes, plain}
-use Rattle.walk.specs.ByValue.{after}
-use Rattle.walk.specs.Kind.{vals, Good, typed, have}
-use Rattle.walk.specs.Lending.{Answer, calls-lending}
-use Rattle.walk.specs.Slices.{lent, counted, opens-arg, closes-arg}
+use Rattle.walk.proofs.Prelude.{_≡_, refl, _∙_, sym, ap, subst, ℕ, _<_, _≤_, _^_, _*_, _+_, _-_, le-antisymm, arith, WellFounded, InvImage·wf, List, [], _∷_, ltb→lt, nltb→le, lit<, Nat·lt-wfRel, URA, fullShare, Ty, named, erased, mut, w64, tyUnit, tyBool, tyPtr, tyInt, tyRef, Val, vunit, vint, vptr, SProp, ent, sep, Lft, Share, GName, ftrue, fat, froom, fdies, flft, fobs, fauth, fobor, Memory, Routine, afterTurn, Heap, Out, Env, afterSeq, afterBlock, Calls, Loops, Wp, atReturn, WpFn, Tables, Atoms, sem, Fun, tablesOf, givenOf, tables, Given, Item, ‵, _⊛_, runs, anyQ, atRet, Sq, _$_, _∵_, !, qed, by, move, keep, drop, split, join, rewrite, fsplit, fjoin, feqI, suffices, frame, done, look, look-raw, init, store, forget, stop, hop, fld, from, load, lit, unit-lit, of-opd, and-then, no-more, bin, addr, assigns, assigns-last, land, first, skips, jumps, blocks, branches, returns, enter, alloc1, alloc0, params1, pass1, pass0, free1, free0, exec, Below, again, loops, agg, whole, sub, look-in, fmOf, WpFn-mono, owns, Is, shows, pointee, uint-vals, uint-tells, u32, unit, usize, RefT, sliceTy, MutSlice, Room, heres, codedHoleys, slice-vals, mut-slice-tells, Held, row, elem-out, elem-back, nothing, nothing-lawful, onEntry, Meets, tripleOf, Triple, entered, cited, says, needs, Stays, stay-dropped, stay-slice, walkOf, goes-dropped, goes-slice, Walks, ends-at, walked, walk-meets, yes, plain}
+use Rattle.walk.proofs.ByValue.{after}
+use Rattle.walk.proofs.Kind.{vals, Good, typed, have}
+use Rattle.walk.proofs.Lending.{Answer, calls-lending}
+use Rattle.walk.proofs.Slices.{lent, counted, opens-arg, closes-arg}
 use lib.ListN.{length, getD}
 use Rattle.model.specs.declared.Constraint.{Constraint}
 use Rattle.model.specs.Lent.{noConstraint}
 use Rattle.model.proofs.Constraint.Laws as C′
 use Rattle.graph.proofs.Constraints.{conK, R, slot-is, fits}
-use Rattle.decision.specs.Words.{withWords}
+use Rattle.search.specs.Constraints.{withWords}
 use Rattle.lender.specs.Packing.{packed}
 use Rattle.lender.proofs.Callees.{PutC, put-left}
 use Rattle.lender.proofs.Packs.{packed-next, packed-none, room-of}
-use Rattle.lender.proofs.put.Symbol as put-def
-use Rattle.lender.proofs.put.Symbol.{name as #lender·put}
-use Rattle.lender.proofs.put.Met as put-thm
+use Rattle.search.proofs.put_constraint.Symbol as put-def
+use Rattle.search.proofs.put_constraint.Symbol.{name as #search·put-constraint}
+use Rattle.search.proofs.put_constraint.Met as put-thm
 use Rattle.lender.proofs.pack.Key.{name as #lender·pack}
 use Rattle.lender.proofs.pack as f
 use Rattle.lender.proofs.pack.Statement as stated
@@ -76,7 +76,7 @@ module _ {M : Type 1} (𝓤 : URA M) (H : Heap 𝓤) (A : Atoms 𝓤) (W : Given
   abbrev begin : State
   begin = record { i = 0; vs = ws; upto = omega arith; len = refl; is = packed-none ys ws }
 
-  module _ (𝓣 : Tables 𝓤 H) (known : Triple 𝓤 (𝓣 .C #lender·put) (PutC 𝓤 H A mem run)) (l₀ l₁ l₂ l₃ l₄ l₅ l₆ l₇ l₈ l₉ l₁₀ l₁₁ l₁₂ : ℕ) where
+  module _ (𝓣 : Tables 𝓤 H) (known : Triple 𝓤 (𝓣 .C #search·put-constraint) (PutC 𝓤 H A mem run)) (l₀ l₁ l₂ l₃ l₄ l₅ l₆ l₇ l₈ l₉ l₁₀ l₁₁ l₁₂ : ℕ) where
     abbrev C : Calls 𝓤 H
     C = 𝓣 .C
 
@@ -125,13 +125,13 @@ module _ {M : Type 1} (𝓤 : URA M) (H : Heap 𝓤) (A : Atoms 𝓤) (W : Given
         assigns ! (of-opd ! (load ! (from ! (hop ! (look ! 16 refl) (stop !))) (look-raw ! 0 refl))) (from ! (stop !)) (init ! 14 refl (typed conK 𝓤 H A W (getD ys (t .i) noConstraint) _ ok .0)) $
         elem-back ! R fullShare ys (t .i) noConstraint (vals conK (getD ys (t .i) noConstraint)) b o in-l $
         assigns ! (of-opd ! (load ! (from ! (stop !)) (look ! 12 refl))) (from ! (stop !)) (init ! 20 refl (typed conK 𝓤 H A W (getD ys (t .i) noConstraint) _ ok .0)) $
-        -- put(c, i, out): the words are brought to the front for the call, and put back
+        -- search::put_constraint(out, i, c): the words are brought to the front for the call, and put back
         assigns ! (addr ! (from ! (fld ! refl (hop ! (look-in ! 24 (sub ! 0 refl (whole !))) (stop !))))) (from ! (stop !)) (init ! 8 refl (tt, tt)) $
         assigns ! (agg ! (and-then ! (load ! (from ! (stop !)) (look ! 8 refl)) (and-then ! (load ! (from ! (fld ! refl (stop !))) (look-in ! 24 (sub ! 1 refl (whole !)))) (no-more !)))) (from ! (stop !)) (init ! 6 refl (tt, (tt, (record { fits = room₁ .0 }, tt)))) $
         move ! (4 ∷ 5 ∷ []) $
         calls-lending ! (fmOf 𝓤 H (W .laws) 𝓣) u32 (named 1) (named 0) κ₁ q₁ γ₁ b₁ o₁ (length ws) (t .vs) (t .len) room₁ (Answer unit (λ _ us. us ≡ withWords (t .vs) (t .i) (getD ys (t .i) noConstraint)))
-        (put-left 𝓤 H A mem run W C (fmOf 𝓤 H (W .laws) 𝓣) known b₁ o₁ (length ws) (t .vs) (t .len) (getD ys (t .i) noConstraint) (t .i) ok i-fits (subst (λ (k : ℕ). 4 * t .i + 4 ≤ k) (sym (t .len)) (room-of n (t .i) (length ws) within₁ lt)))
-        (λ i j. and-then ! (load ! (from ! (stop !)) (look ! 20 refl)) (and-then ! (load ! (from ! (stop !)) (look ! 22 refl)) (and-then ! (load ! (from ! (stop !)) (look ! 6 refl)) (no-more !)))) (λ u us gave len.
+        (put-left 𝓤 H A mem run W C (fmOf 𝓤 H (W .laws) 𝓣) known b₁ o₁ (length ws) (t .vs) (t .len) (t .i) (getD ys (t .i) noConstraint) i-fits ok (subst (λ (k : ℕ). 4 * t .i + 4 ≤ k) (sym (t .len)) (room-of n (t .i) (length ws) within₁ lt)))
+        (λ i j. and-then ! (load ! (from ! (stop !)) (look ! 6 refl)) (and-then ! (load ! (from ! (stop !)) (look ! 22 refl)) (and-then ! (load ! (from ! (stop !)) (look ! 20 refl)) (no-more !)))) (λ u us gave len.
         land ! (from ! (stop !)) (init ! 10 refl (nothing-lawful 𝓤 H A W .typed (gave .0) (u ∷ []) (gave .1 .1) .0)) $ move ! (2 ∷ 3 ∷ 4 ∷ 5 ∷ []) $
         -- i += 1
         assigns-last ! (bin ! (load ! (from ! (stop !)) (look ! 22 refl)) (lit ! tt) (record { fits = omega arith })) (from ! (stop !)) (store ! 22 refl (tt, record { fits = omega arith })) $
@@ -148,7 +148,7 @@ module _ {M : Type 1} (𝓤 : URA M) (H : Heap 𝓤) (A : Atoms 𝓤) (W : Given
     looped : Sq W (At begin) (runs C Λ En body.t-2 (atRet En Post))
     looped = first ! $ blocks ! $ loops ! 𝓣 Nearer Nearer-wf At turns begin
 
-  walk : (𝓣 : Tables 𝓤 H) → Triple 𝓤 (𝓣 .C #lender·put) (PutC 𝓤 H A mem run) → ent 𝓤 (onEntry 𝓤 H A f.signature (κ₀, (κ₁, tt)) (q₀, (q₁, tt)) a at) (WpFn 𝓤 H (𝓣 .C) (𝓣 .Λ) code.function (s ∷ vint w64 n ∷ s₁ ∷ []) Post)
+  walk : (𝓣 : Tables 𝓤 H) → Triple 𝓤 (𝓣 .C #search·put-constraint) (PutC 𝓤 H A mem run) → ent 𝓤 (onEntry 𝓤 H A f.signature (κ₀, (κ₁, tt)) (q₀, (q₁, tt)) a at) (WpFn 𝓤 H (𝓣 .C) (𝓣 .Λ) code.function (s ∷ vint w64 n ∷ s₁ ∷ []) Post)
   walk 𝓣 known =
       qed W ((‵ (flft κ₀ q₀) ⊛ (‵ (flft κ₁ q₁) ⊛ ‵ ftrue)) ∷ ‵ (owns (MutSlice (named 0) κ₀ R ∷ usize ∷ MutSlice (named 1) κ₁ u32 ∷ []) a at) ∷ []) ∵
       split ! $ move ! (1 ∷ []) $ split ! $ move ! (3 ∷ []) $ fsplit ! $ move ! (1 ∷ []) $ fsplit ! $ drop ! $ fsplit ! $
@@ -160,7 +160,7 @@ module _ {M : Type 1} (𝓤 : URA M) (H : Heap 𝓤) (A : Atoms 𝓤) (W : Given
       assigns ! (of-opd ! (lit ! tt)) (from ! (stop !)) (init ! 16 refl (tt, record { fits = lit< tt })) $
       move ! (26 ∷ 27 ∷ 28 ∷ 29 ∷ []) $ opens-arg ! tt R (named 0) (length ys) ys b o $ looped 𝓣 known l₀ l₁ l₂ l₃ l₄ l₅ l₆ l₇ l₈ l₉ l₁₀ l₁₁ l₁₂)))))))))))))
 
-module _ {M : Type 1} (𝓤 : URA M) (H : Heap 𝓤) (A : Atoms 𝓤) (W : Given 𝓤 H A) (mem : Memory → SProp 𝓤) (run : Routine → Fun 𝓤) (𝓣 : Tables 𝓤 H) (known : Triple 𝓤 (𝓣 .C #lender·put) (PutC 𝓤 H A mem run)) where
+module _ {M : Type 1} (𝓤 : URA M) (H : Heap 𝓤) (A : Atoms 𝓤) (W : Given 𝓤 H A) (mem : Memory → SProp 𝓤) (run : Routine → Fun 𝓤) (𝓣 : Tables 𝓤 H) (known : Triple 𝓤 (𝓣 .C #search·put-constraint) (PutC 𝓤 H A mem run)) where
   pack-walks : Walks 𝓤 H A f.ended stayed (WpFn 𝓤 H (𝓣 .C) (𝓣 .Λ) code.function) (f.clauses 𝓤 H A mem run)
   pack-walks = walked 𝓤 H A f.ended stayed (f.clauses 𝓤 H A mem run) (WpFn 𝓤 H (𝓣 .C) (𝓣 .Λ) code.function)
       (λ κs. (slice-vals, (uint-vals w64, (slice-vals, tt)))) (λ κs. (mut-slice-tells (named 0) (κs .0) R, (uint-tells w64, (mut-slice-tells (named 1) (κs .1 .0) u32, tt))))
@@ -178,4 +178,4 @@ pack-spec 𝓤 H 𝓜 𝓖 𝓡 =
     entered 𝓤 H (tripleOf 𝓤 H (𝓖 .A) f.signature (f.spec 𝓤 H (𝓖 .A) (𝓜 .mem) (𝓡 .run)))
     (tables 𝓤 H 𝓜 𝓡 code.env .C) (tables 𝓤 H 𝓜 𝓡 code.env .Λ) #lender·pack code.function (code.unfolded 𝓤 H 𝓜 𝓡)
     (pack-meets 𝓤 H (𝓖 .A) (givenOf 𝓤 H 𝓜 𝓖) (𝓜 .mem) (𝓡 .run) (tablesOf 𝓤 H 𝓜 (tables 𝓤 H 𝓜 𝓡 code.env))
-    (cited 𝓤 H (PutC 𝓤 H (𝓖 .A) (𝓜 .mem) (𝓡 .run)) 𝓜 𝓡 code.env #lender·put put-def.routine code.calls-lender·put (put-thm.met 𝓤 H 𝓜 𝓖 𝓡)))
+    (cited 𝓤 H (PutC 𝓤 H (𝓖 .A) (𝓜 .mem) (𝓡 .run)) 𝓜 𝓡 code.env #search·put-constraint put-def.routine code.calls-search·put-constraint (put-thm.met 𝓤 H 𝓜 𝓖 𝓡)))

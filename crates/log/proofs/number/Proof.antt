@@ -1,7 +1,8 @@
 -- `log::number` meets its contract. Assumes nothing.
-use mathlib.Core.Path.{_≡_, ap, sym, _∙_}
+use mathlib.Core.Path.{ap, sym, _∙_}
 use native.Mathlib.Omega.{arith}
-use Rattle.model.specs.Log.{firstNumber, bodiesNumber, entryNumber, countsBefore, transactionsIn}
+use Rattle.model.specs.Log.{firstNumber, bodiesNumber, entryNumber, countsBefore}
+use Rattle.log.proofs.Reading.{head-out}
 use Rattle.log.proofs.Numbers.{summed-out, load-short, load-many-t, load-many-n, load-length, load-entries, load-sum, load-bodies}
 use borrow.Author.Needs.{needs}
 use Rattle.log.proofs.number.Statement.{statement}
@@ -10,17 +11,26 @@ use Rattle.log.proofs.number.Tie as tie
 returns : tie.Need-returns
 returns c = load-short _ (omega arith)
 
-pair-requires : tie.Need-pair-requires
-pair-requires c κs = search needs
+header-of-requires : tie.Need-header-of-requires
+header-of-requires c κs = search needs
 
-pair-requires-2 : tie.Need-pair-requires-2
-pair-requires-2 c κs = search needs
+cast-t : tie.Need-cast-t
+cast-t c = search needs
+
+cast-n : tie.Need-cast-n
+cast-n c = search needs
 
 returns-2 : tie.Need-returns-2
-returns-2 c = load-many-t (c .before .before .before .before .before .args .log .now) (omega arith) (omega arith)
+returns-2 c =
+    let b = c .before .before .before .before .before .before .args .log .now in
+    let is = head-out b _ (c .before .before .before .header-of .ensures) in
+    load-many-t b (omega arith) (omega (arith, is .0, is .1))
 
 returns-3 : tie.Need-returns-3
-returns-3 c = load-many-n (c .before .before .before .before .before .before .args .log .now) (omega arith) (omega arith) (omega arith)
+returns-3 c =
+    let b = c .before .before .before .before .before .before .before .args .log .now in
+    let is = head-out b _ (c .before .before .before .before .header-of .ensures) in
+    load-many-n b (omega arith) (omega (arith, is .0, is .1)) (omega (arith, is .0, is .1))
 
 mul-if4 : tie.Need-mul-if4
 mul-if4 c = search needs
@@ -36,48 +46,60 @@ add-if4-2 c = search needs
 
 returns-4 : tie.Need-returns-4
 returns-4 c =
-    load-length (c .before .before .before .before .before .before .before .args .log .now) (omega arith) (omega arith) (omega arith)
-    (λ e. c .if4 .taken (omega arith))
+    let b = c .before .before .before .before .before .before .before .before .args .log .now in
+    let is = head-out b _ (c .before .before .before .before .before .header-of .ensures) in
+    load-length b (omega arith) (omega (arith, is .0, is .1)) (omega (arith, is .0, is .1)) (λ e. c .if4 .taken (omega (arith, is .0, is .1, e)))
 
 test-requires : tie.Need-test-requires
 test-requires c κs = search needs
 
 returns-5 : tie.Need-returns-5
 returns-5 c =
-    let b = c .before .before .before .before .before .before .before .before .before .before .args .log .now in
-    let same = c .before .before .before .before .before .before .before .pair .ensures .0 in
-    load-entries b (omega arith) (omega arith) (omega arith) (omega arith) _ (summed-out b _ _ (c .before .before .test .ensures) .0 ∙ ap (firstNumber (entryNumber b)) same) (c .if5 .taken)
+    let b = c .before .before .before .before .before .before .before .before .before .before .before .args .log .now in
+    let is = head-out b _ (c .before .before .before .before .before .before .before .before .header-of .ensures) in
+    load-entries b (omega arith) (omega (arith, is .0, is .1)) (omega (arith, is .0, is .1)) (omega (arith, is .0, is .1)) _ (summed-out b _ _ (c .before .before .test .ensures) .0 ∙ ap (firstNumber (entryNumber b)) (is .0)) (c .if5 .taken)
 
 returns-6 : tie.Need-returns-6
 returns-6 c =
-    let b = c .before .before .before .before .before .before .before .before .before .before .before .before .args .log .now in
-    let same = c .before .before .before .before .before .before .before .before .before .pair .ensures .0 in
+    let b = c .before .before .before .before .before .before .before .before .before .before .before .before .before .args .log .now in
+    let is = head-out b _ (c .before .before .before .before .before .before .before .before .before .before .header-of .ensures) in
     let told = summed-out b _ _ (c .before .before .before .before .test .ensures) in
-    load-sum b (omega arith) (omega arith) (omega arith) (omega arith) (sym (ap (firstNumber (entryNumber b)) same) ∙ sym (told .0) ∙ c .before .before .if5 .left)
-    (λ e. c .if6 .taken (told .1 ∙ ap (countsBefore b) same ∙ e ∙ sym (c .before .before .before .before .before .before .before .before .pair2 .ensures .0)))
+    load-sum b (omega arith) (omega (arith, is .0, is .1)) (omega (arith, is .0, is .1)) (omega (arith, is .0, is .1)) (sym (ap (firstNumber (entryNumber b)) (is .0)) ∙ sym (told .0) ∙ c .before .before .if5 .left)
+    (λ e. c .if6 .taken (told .1 ∙ ap (countsBefore b) (is .0) ∙ e ∙ sym (is .1)))
 
 test-requires-2 : tie.Need-test-requires-2
 test-requires-2 c κs =
-    let b = c .before .before .before .before .before .before .before .before .before .before .before .before .args .log .now in
-    let told = summed-out b _ _ (c .before .before .before .before .test .ensures) in
-    search needs
+    let b = c .before .before .before .before .before .before .before .before .before .before .before .before .before .args .log .now in
+    let is = head-out b _ (c .before .before .before .before .before .before .before .before .before .before .header-of .ensures) in
+    let told = summed-out b _ _ (c .before .before .before .before .test .ensures) in (
+      record {
+        few = omega arith;
+        many = omega (arith, is .0, is .1);
+        count = is .0;
+        long = omega (arith, is .0, is .1);
+        entries = sym (told .0) ∙ c .before .before .if5 .left;
+        sum = sym (told .1) ∙ c .if6 .left ∙ is .1;
+      },
+      is .1,
+    )
 
 returns-7 : tie.Need-returns-7
 returns-7 c =
-    let b = c .before .before .before .before .before .before .before .before .before .before .before .before .before .args .log .now in
-    let same = c .before .before .before .before .before .before .before .before .before .before .pair .ensures .0 in
+    let b = c .before .before .before .before .before .before .before .before .before .before .before .before .before .before .args .log .now in
+    let is = head-out b _ (c .before .before .before .before .before .before .before .before .before .before .before .header-of .ensures) in
     let told = summed-out b _ _ (c .before .before .before .before .before .test .ensures) in
-    c .test2 .ensures ∙ ap (firstNumber (bodiesNumber b)) same
-    ∙ load-bodies b (omega arith) (omega arith) (omega arith) (omega arith) (sym (ap (firstNumber (entryNumber b)) same) ∙ sym (told .0) ∙ c .before .before .before .if5 .left)
-    (sym (ap (countsBefore b) same) ∙ sym (told .1) ∙ c .before .if6 .left ∙ c .before .before .before .before .before .before .before .before .before .pair2 .ensures .0)
+    c .test2 .ensures ∙ ap (firstNumber (bodiesNumber b)) (is .0)
+    ∙ load-bodies b (omega arith) (omega (arith, is .0, is .1)) (omega (arith, is .0, is .1)) (omega (arith, is .0, is .1)) (sym (ap (firstNumber (entryNumber b)) (is .0)) ∙ sym (told .0) ∙ c .before .before .before .if5 .left)
+    (sym (ap (countsBefore b) (is .0)) ∙ sym (told .1) ∙ c .before .if6 .left ∙ is .1)
 
 pub number-spec : {M : Type 1} → statement M
 number-spec =
     tie.close
     (tie.spec
     returns
-    pair-requires
-    pair-requires-2
+    header-of-requires
+    cast-t
+    cast-n
     returns-2
     returns-3
     mul-if4

@@ -1,49 +1,60 @@
 -- `polygraph::known` meets its contract. Assumes nothing.
-use native.Mathlib.Omega.{arith}
-use mathlib.Core.Path.{_≡_, refl, ap, ap₂, sym, _∙_}
-use Prim.Native.Nat.{ℕ, _≤_, _<_, _-_}
-use Rattle.model.specs.Log.{historyOf}
-use Rattle.polygraph.specs.Edges.{rowOf}
-use Rattle.polygraph.proofs.RowWords.{rows-are}
-use Rattle.graph.proofs.WordLaws.{Filled, filled-start, filled-next, filled-end}
 use borrow.Author.Needs.{needs}
+use Prim.Native.Nat.{_≤_, _-_}
+use native.Mathlib.Omega.{arith}
+use mathlib.Core.Path.{_≡_, refl, ap, _∙_}
+use lib.Dec.{eqb}
+use lib.ListN.{take}
+use Rattle.model.specs.Lists.{fold}
+use Rattle.model.specs.Log.{historyOf}
+use Rattle.polygraph.specs.Edges.{cabinetRows, readStep}
+use Rattle.polygraph.proofs.Marks.{fold-take}
+use Rattle.polygraph.proofs.ReadEdges.{known-all}
 use Rattle.polygraph.proofs.known.Statement.{statement}
 use Rattle.polygraph.proofs.known.Tie as tie
 
 abbrev Inv-loop : tie.InvT-loop
-Inv-loop log n encoding writers marks nexts out₀ u₀ out u = (u ≤ 32) × Filled 32 (rowOf (historyOf log) encoding) u out
+Inv-loop log n encoding reads count writers marks out₀ i₀ out i = (i ≤ count) × (out ≡ fold (readStep (eqb encoding 2) writers marks) (cabinetRows (historyOf log)) (take i reads))
 
 abbrev μ-loop : tie.MeasureT-loop
-μ-loop log n encoding writers marks nexts out₀ u₀ out u = 32 - u
+μ-loop log n encoding reads count writers marks out₀ i₀ out i = count - i
+
+add-cabinets-requires : tie.Need-add-cabinets-requires Inv-loop μ-loop
+add-cabinets-requires c κs = let s = c .before .before in (s .pre .0 .loads, s .pre .1, refl)
 
 loop-holds : tie.Need-loop-holds Inv-loop μ-loop
-loop-holds c = (search needs, filled-start 32 _ _ refl)
+loop-holds c = (search needs, c .add-cabinets .ensures)
 
-row-requires : tie.Need-row-requires Inv-loop μ-loop
-row-requires c κs = search needs
+mul-add-read : tie.Need-mul-add-read Inv-loop μ-loop
+mul-add-read c = search needs
 
-mul-out : tie.Need-mul-out Inv-loop μ-loop
-mul-out c = search needs
+element-copy-out-add-read : tie.Need-element-copy-out-add-read Inv-loop μ-loop
+element-copy-out-add-read c = search needs
 
-array-write-out : tie.Need-array-write-out Inv-loop μ-loop
-array-write-out c = search needs
+add-read-requires : tie.Need-add-read-requires Inv-loop μ-loop
+add-read-requires c κs = search needs
 
-add-u : tie.Need-add-u Inv-loop μ-loop
-add-u c = search needs
+add-i : tie.Need-add-i Inv-loop μ-loop
+add-i c = search needs
 
 loop-less : tie.Need-loop-less Inv-loop μ-loop
 loop-less c = search needs
 
 loop-again : tie.Need-loop-again Inv-loop μ-loop
 loop-again c =
-    let l = c .before .before .loop in
-    (omega arith, filled-next 32 _ (l .u) _ (l .out) (omega arith) (l .inv .1) (c .row .ensures))
+    let s = c .before .before .before .before .before .before .before .before in
+    let a = s .args in
+    let l = c .before .before .before .before .loop in
+    (omega arith, fold-take (readStep (eqb (a .encoding) 2) (a .writers .now) (a .marks .now)) _ (l .out) _ (a .reads .now) (l .i) (omega (arith, s .pre .0 .long, s .pre .0 .room)) (l .inv .1) (c .add-read .ensures))
 
 returns : tie.Need-returns Inv-loop μ-loop
 returns c =
+    let s = c .before .before .before .before .before in
+    let a = s .args in
     let l = c .before .loop in
-    let a = c .before .before .before .args in
-    filled-end 32 (rowOf (historyOf (a .log .now)) (a .encoding)) (l .u) (l .out) (omega arith) (l .inv .1) ∙ rows-are (historyOf (a .log .now)) (a .encoding)
+    let end : l .i ≡ a .count = omega arith in
+    known-all (a .log .now) (s .pre .0 .loads) (a .encoding) (a .writers .now) (a .marks .now) (a .reads .now) (l .out) (a .count) (s .pre .0) (s .pre .2)
+    (l .inv .1 ∙ ap (λ n. fold (readStep (eqb (a .encoding) 2) (a .writers .now) (a .marks .now)) (cabinetRows (historyOf (a .log .now))) (take n (a .reads .now))) end)
 
 pub known-spec : {M : Type 1} → statement M
 known-spec =
@@ -51,11 +62,12 @@ known-spec =
     (tie.spec
     Inv-loop
     μ-loop
+    add-cabinets-requires
     loop-holds
-    row-requires
-    mul-out
-    array-write-out
-    add-u
+    mul-add-read
+    element-copy-out-add-read
+    add-read-requires
+    add-i
     loop-less
     loop-again
     returns)

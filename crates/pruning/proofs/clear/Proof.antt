@@ -1,15 +1,15 @@
 -- `pruning::clear` meets its contract: a walk of its MIR, by hand. The borrow is opened once, before the loop, and closed once, after it.
 --     State            what a turn starts from: the number i and the list l so far.        At           the context of a turn.        turns        a turn
 -- Assumes nothing.
-use Rattle.walk.specs.Prelude.{_≡_, refl, _∙_, sym, subst, ℕ, _<_, _≤_, _^_, _*_, _+_, _-_, le-antisymm, arith, List, [], _∷_, _++_, ltb→lt, nltb→le, lit<, URA, fullShare, Ty, named, w64, tyUnit, tyBool, tyPtr, Val, vunit, vint, vptr, SProp, ent, sep, Lft, Share, GName, ftrue, fat, froom, fdies, flft, fobs, fauth, fobor, Memory, Routine, afterTurn, Heap, Env, Calls, Loops, WpFn, Tables, Atoms, sem, Fun, tablesOf, givenOf, tables, Given, Item, ‵, _⊛_, runs, anyQ, atRet, Sq, _$_, _∵_, !, qed, by, move, keep, drop, split, join, rewrite, fsplit, fjoin, feqI, suffices, frame, done, look, init, store, store-raw, forget, stop, hop, fld, from, load, lit, unit-lit, of-opd, and-then, no-more, bin, assigns, assigns-last, first, skips, jumps, blocks, branches, returns, enter, alloc1, alloc0, params1, pass1, pass0, free1, free0, exec, again, loops, agg, whole, sub, look-in, WpFn-mono, owns, Is, shows, uint-vals, uint-tells, usize, RefT, MutSlice, Room, heres, codedHoleys, slice-vals, mut-slice-tells, Held, row, elem-out, elem-put, nothing, onEntry, Meets, tripleOf, entered, says, needs, Stays, stay-dropped, stay-slice, walkOf, goes-dropped, goes-slice, Walks, ends-at, walked, walk-meets, yes, plain}
+use Rattle.walk.proofs.Prelude.{_≡_, refl, _∙_, sym, subst, ℕ, _<_, _≤_, _^_, _*_, _+_, _-_, le-antisymm, arith, List, [], _∷_, _++_, ltb→lt, nltb→le, lit<, URA, fullShare, Ty, named, w64, tyUnit, tyBool, tyPtr, Val, vunit, vint, vptr, SProp, ent, sep, Lft, Share, GName, ftrue, fat, froom, fdies, flft, fobs, fauth, fobor, Memory, Routine, afterTurn, Heap, Env, Calls, Loops, WpFn, Tables, Atoms, sem, Fun, tablesOf, givenOf, tables, Given, Item, ‵, _⊛_, runs, anyQ, atRet, Sq, _$_, _∵_, !, qed, by, move, keep, drop, split, join, rewrite, fsplit, fjoin, feqI, suffices, frame, done, look, init, store, store-raw, forget, stop, hop, fld, from, load, lit, unit-lit, of-opd, and-then, no-more, bin, assigns, assigns-last, first, skips, jumps, blocks, branches, returns, enter, alloc1, alloc0, params1, pass1, pass0, free1, free0, exec, again, loops, agg, whole, sub, look-in, WpFn-mono, owns, Is, shows, uint-vals, uint-tells, usize, RefT, MutSlice, Room, heres, codedHoleys, slice-vals, mut-slice-tells, Held, row, elem-out, elem-put, nothing, onEntry, Meets, tripleOf, entered, says, needs, Stays, stay-dropped, stay-slice, walkOf, goes-dropped, goes-slice, Walks, ends-at, walked, walk-meets, yes, plain}
 use lib.ListN.{length, set, take, drop as dropL, replicate, length-set}
 use Rattle.model.specs.declared.Constraint.{Constraint}
 use Rattle.model.specs.Lent.{noConstraint}
 use Rattle.model.proofs.Constraint.Laws as C′
-use Rattle.walk.specs.ByValue.{after}
-use Rattle.walk.specs.Kind.{vals, typed, have}
-use Rattle.walk.specs.Slices.{lent, counted, opens-arg, closes-arg}
-use Rattle.walk.specs.Turns.{Falls, falls-wf, lentSlice, Turned, word}
+use Rattle.walk.proofs.ByValue.{after}
+use Rattle.walk.proofs.Kind.{vals, typed, have}
+use Rattle.walk.proofs.Slices.{lent, counted, opens-arg, closes-arg}
+use Rattle.walk.proofs.Turns.{Falls, falls-wf, lentSlice, Turned, word}
 use Rattle.graph.proofs.Constraints.{conK, R, none-ok, slot-is, fits}
 use Rattle.pruning.proofs.Zeros.{zeroed, zeroed-is, zeroed-none, zeroed-next}
 use Rattle.pruning.proofs.clear.Key.{name as #pruning·clear}

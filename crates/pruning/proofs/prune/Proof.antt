@@ -2,15 +2,16 @@
 --     State            what a turn starts from.        left         what falls with each turn: what is left to do
 --     At               the context of a turn: the list, its token and the closed rows stand in front.        ended        the rest of the body, once no pass is on.        turns        a turn
 -- Assumes nothing.
-use Rattle.walk.specs.Prelude.{_≡_, refl, sym, _∙_, ap, subst, ℕ, _<_, _≤_, _^_, _*_, _+_, _-_, arith, List, [], _∷_, lit<, URA, fullShare, Ty, named, erased, imm, mut, w8, w32, w64, tyBool, tyPtr, tyInt, tyArray, tyRef, Val, vint, vptr, SProp, ent, sep, Lft, Share, GName, ftrue, fat, froom, fdies, flft, Memory, Routine, Heap, Env, afterTurn, Calls, Loops, WpFn, Tables, Atoms, sem, Fun, givenOf, tables, tablesOf, Given, Item, ‵, _⊛_, runs, anyQ, atRet, Sq, _$_, _∵_, !, qed, by, move, keep, drop, split, join, rewrite, fsplit, fjoin, suffices, frame, done, look, init, store, forget, stop, hop, fld, from, load, lit, of-opd, and-then, no-more, bin, addr, assigns, assigns-last, land, first, skips, jumps, blocks, branches, returns, enter, alloc1, alloc0, params1, pass1, pass0, free1, free0, exec, again, loops, agg, whole, sub, look-in, fmOf, WpFn-mono, owns, pointee, uint-vals, uint-tells, u8, u32, usize, RefT, sliceTy, MutSlice, Room, slice-vals, mut-slice-tells, nothing, onEntry, needs, Meets, tripleOf, Triple, entered, cited, says, Stays, stay-dropped, stay-slice, walkOf, goes-dropped, goes-slice, Walks, ends-at, walked, walk-meets, yes, plain, arrayOf}
-use Rattle.walk.specs.Both.{calls-both}
-use Rattle.walk.specs.ByValue.{after, Result, calls-by-value}
-use Rattle.walk.specs.Kind.{wordsK, vals, Good, good, val-is, typed, have, words-long, words-small}
-use Rattle.walk.specs.Lending.{Answer}
-use Rattle.walk.specs.Locals.{shared, lends-local, local-back}
-use Rattle.walk.specs.Slices.{lent, counted}
-use Rattle.walk.specs.Turns.{byte, Falls, falls-wf, lentSlice, Turned, word}
-use lib.Dec.{eqb, eqb→eq, eqb-refl, T, T-not}
+use Rattle.walk.proofs.Prelude.{_≡_, refl, sym, _∙_, ap, subst, ℕ, _<_, _≤_, _^_, _*_, _+_, _-_, arith, List, [], _∷_, lit<, URA, fullShare, Ty, named, erased, imm, mut, w8, w32, w64, tyBool, tyPtr, tyInt, tyArray, tyRef, Val, vint, vptr, SProp, ent, sep, Lft, Share, GName, ftrue, fat, froom, fdies, flft, Memory, Routine, Heap, Env, afterTurn, Calls, Loops, WpFn, Tables, Atoms, sem, Fun, givenOf, tables, tablesOf, Given, Item, ‵, _⊛_, runs, anyQ, atRet, Sq, _$_, _∵_, !, qed, by, move, keep, drop, split, join, rewrite, fsplit, fjoin, suffices, frame, done, look, init, store, forget, stop, hop, fld, from, load, lit, of-opd, and-then, no-more, bin, addr, assigns, assigns-last, land, first, skips, jumps, blocks, branches, returns, enter, alloc1, alloc0, params1, pass1, pass0, free1, free0, exec, again, loops, agg, whole, sub, look-in, fmOf, WpFn-mono, owns, pointee, uint-vals, uint-tells, u8, u32, usize, RefT, sliceTy, MutSlice, Room, slice-vals, mut-slice-tells, nothing, onEntry, needs, Meets, tripleOf, Triple, entered, cited, says, Stays, stay-dropped, stay-slice, walkOf, goes-dropped, goes-slice, Walks, ends-at, walked, walk-meets, yes, plain, arrayOf}
+use Rattle.walk.proofs.Both.{calls-both}
+use Rattle.walk.proofs.ByValue.{after, Result, calls-by-value}
+use Rattle.walk.proofs.Kind.{wordsK, vals, Good, good, val-is, typed, have, words-long, words-small}
+use Rattle.walk.proofs.Lending.{Answer}
+use Rattle.walk.proofs.Locals.{shared, lends-local, local-back}
+use Rattle.walk.proofs.Slices.{lent, counted}
+use Rattle.walk.proofs.Turns.{byte, Falls, falls-wf, lentSlice, Turned, word}
+use mathlib.Core.Bool.{true, false}
+use Rattle.model.proofs.Basics.{true-eq, false-eq}
 use lib.ListN.{length}
 use denote.Ref.{ShrRef, shr-copy}
 use Rattle.model.specs.declared.Constraint.{Constraint}
@@ -106,7 +107,7 @@ module _ {M : Type 1} (𝓤 : URA M) (H : Heap 𝓤) (A : Atoms 𝓤) (W : Given
   left t = todo (t .p)
 
   -- the turn after a hit
-  next-state : (t : State) (h : Hit) (zs : List Constraint) (p′ : Place) (g′ cl′ : List ℕ) → t .p .on ≡ 1 → Skims (t .cl) (t .l) (t .p) h zs → length zs ≡ m
+  next-state : (t : State) (h : Hit) (zs : List Constraint) (p′ : Place) (g′ cl′ : List ℕ) → t .p .on ≡ true → Skims (t .cl) (t .l) (t .p) h zs → length zs ≡ m
       → p′ ≡ nextPlace (t .p) h → Good placeK p′ → g′ ≡ withSide (t .g) (h .from) (h .to) → Good (wordsK 32) g′ → Extended (t .cl) (h .from) (h .to) cl′ → Good (wordsK 32) cl′ → State
   next-state t h zs p′ g′ cl′ on k len p-is p-ok g-is g-ok cl-is cl-ok =
       let long = words-long 32 (t .g) (t .g-ok) in let small = words-small 32 (t .g) (t .g-ok) in let skimmed = k (t .g) (t .closed) in
@@ -151,7 +152,7 @@ module _ {M : Type 1} (𝓤 : URA M) (H : Heap 𝓤) (A : Atoms 𝓤) (W : Given
         ∷ ‵ (fat fullShare P′.mir l₇ 0 (placeK .val (t .p))) ∷ ‵ (fdies P′.mir l₇) ∷ ‵ (fdies array l₆) ∷ ‵ (fat fullShare array l₅ 0 (wordsK 32 .val (t .g))) ∷ ‵ (fdies array l₅)
         ∷ ‵ (fat fullShare byte l₄ 0 (vint w8 pruning)) ∷ ‵ (fdies byte l₄) ∷ ‵ (fat fullShare word l₃ 0 (vint w64 n)) ∷ ‵ (fdies word l₃) ∷ ‵ (fat fullShare slice l₂ 0 s) ∷ ‵ (fdies slice l₂) ∷ ‵ (fat fullShare array l₁ 0 (wordsK 32 .val rows)) ∷ ‵ (fdies array l₁) ∷ ‵ (froom D′.mir l₀ 0) ∷ ‵ (fdies D′.mir l₀) ∷ []
 
-    ended : (t : State) → t .p .on ≡ 0 → Sq W (At t) (runs C Λ En body.t-6 (atRet En Post))
+    ended : (t : State) → t .p .on ≡ false → Sq W (At t) (runs C Λ En body.t-6 (atRet En Post))
     ended t off =
         let r : Pruned = record { rows = t .g; left = t .p .kept } in let ok : Good prunedK r = pruned-ok (t .g) (t .p .kept) (t .g-ok) (of-place (t .p) _ (t .p-ok) .1) in
         -- [what list owns; the token; _6 at 2; _16 at 3; _15 at 5; _14 at 7; _13 at 9; _12 at 11; _11 at 13; _10 at 15; _9 at 17; _8 at 19; _7 at 21; what frees _6 at 23; _5 at 24; _4 at 26; _3 at 28; _2 at 30; _1 at 32; _0 at 34]
@@ -165,9 +166,9 @@ module _ {M : Type 1} (𝓤 : URA M) (H : Heap 𝓤) (A : Atoms 𝓤) (W : Given
     unfolding afterTurn next-state
     turns t =
         -- the positions as in `ended`
-        assigns ! (bin ! (load ! (from ! (fld ! refl (stop !))) (look-in ! 21 (sub ! 3 refl (whole !)))) (lit ! tt) tt) (from ! (stop !)) (init ! 11 refl (tt, tt)) $
+        assigns ! (of-opd ! (load ! (from ! (fld ! refl (stop !))) (look-in ! 21 (sub ! 3 refl (whole !))))) (from ! (stop !)) (init ! 11 refl (tt, tt)) $
         first ! $ branches ! (load ! (from ! (stop !)) (look ! 11 refl))
-        (λ is-on. let on : t .p .on ≡ 1 = eqb→eq (t .p .on) 1 is-on in let p-fits = of-place (t .p) _ (t .p-ok) in
+        (λ is-on. let on : t .p .on ≡ true = true-eq (t .p .on) is-on in let p-fits = of-place (t .p) _ (t .p-ok) in
         skips ! $ exec ! C Λ En (after (after body.turn-1)) (anyQ (Turned 𝓤 H A 𝓣 En Post body.t-6 (Falls left) At t)) $
         assigns ! (addr ! (from ! (stop !))) (from ! (stop !)) (init ! 9 refl (tt, tt)) $
         assigns ! (addr ! (from ! (fld ! refl (hop ! (look-in ! 30 (sub ! 0 refl (whole !))) (stop !))))) (from ! (stop !)) (init ! 7 refl (tt, tt)) $
@@ -203,7 +204,7 @@ module _ {M : Type 1} (𝓤 : URA M) (H : Heap 𝓤) (A : Atoms 𝓤) (W : Given
         forget ! 3 refl $ forget ! 5 refl $ forget ! 7 refl $ forget ! 9 refl $ forget ! 11 refl $ forget ! 15 refl $ forget ! 17 refl $ forget ! 19 refl $
         again ! (Falls left) At t (next-state t h zs p′ g′ cl′ on skims len (gave₁ .1 .0) (good placeK p′ u₁ (gave₁ .1 .1)) (gave₂ .1 .0) g-ok (gave₃ .1 .0) cl-ok)
         (subst (λ (x : Place). todo x < todo (t .p)) (sym (gave₁ .1 .0)) (todo-less (t .g) (t .l) zs (t .p) h on skimmed))))))))
-        (λ is-off. jumps ! $ exec ! C Λ En body.t-6 (atRet En Post) $ forget ! 11 refl $ let off : (t .p .on ≡ 1 → ⊥) = (λ z. T-not (eqb (t .p .on) 1) is-off (subst (λ (k : ℕ). T (eqb k 1)) (sym z) (eqb-refl 1))) in ended t (omega (arith, t .known .flag, off)))
+        (λ is-off. jumps ! $ exec ! C Λ En body.t-6 (atRet En Post) $ forget ! 11 refl $ ended t (false-eq (t .p .on) is-off))
 
     abbrev begin : State
     begin = record { p = p₀; g = rows; cl = cl₀; l = ys; p-ok = p₀-ok; g-ok = rows-ok; cl-ok = cl₀-ok; closed = cl₀-is; known = subst (Stands rows ys n pruning rows ys) (sym p₀-is) (stands-start rows ys n pruning within aims) }

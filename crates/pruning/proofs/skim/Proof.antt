@@ -2,13 +2,14 @@
 --     State            what a turn starts from.        left         what falls with each turn: what is left of the pass
 --     Holds            the context of a turn.        ended        the rest of the body, from a state in which the loop is left.        turns        a turn
 -- Assumes nothing.
-use Rattle.walk.specs.Prelude.{_≡_, refl, sym, _∙_, ap, subst, ℕ, _<_, _≤_, _^_, _*_, _+_, _-_, arith, List, [], _∷_, ltb→lt, nltb→le, lit<, URA, fullShare, Ty, named, imm, w64, tyBool, tyPtr, tyRef, Val, vint, vptr, SProp, ent, sep, Lft, Share, GName, Fml, ftrue, fat, froom, fdies, flft, fobs, fauth, fobor, Memory, Routine, Heap, Env, afterTurn, Calls, Loops, WpFn, Tables, Atoms, sem, Fun, givenOf, tables, tablesOf, Given, Item, ‵, _⊛_, runs, anyQ, atRet, Sq, _$_, _∵_, !, qed, by, move, keep, drop, split, join, rewrite, fsplit, fjoin, suffices, frame, done, look, look-raw, init, store, store-raw, forget, stop, hop, fld, from, load, lit, of-opd, and-then, no-more, bin, assigns, assigns-last, land, first, skips, jumps, blocks, branches, returns, enter, alloc1, alloc0, params1, pass1, pass0, free1, free0, exec, again, loops, agg, whole, sub, look-in, fmOf, WpFn-mono, owns, Is, shows, pointee, uint-vals, uint-tells, u32, usize, RefT, MutSlice, Room, heres, codedHoleys, slice-vals, mut-slice-tells, Held, row, elem-out, elem-back, elem-put, nothing, onEntry, needs, Meets, tripleOf, Triple, entered, cited, says, Stays, stay-dropped, stay-slice, walkOf, goes-dropped, goes-slice, Walks, ends-at, walked, walk-meets, yes, plain, arrayOf}
-use Rattle.walk.specs.ByValue.{after, Result}
-use Rattle.walk.specs.Kind.{wordsK, vals, Good, good, val-is, typed, have}
-use Rattle.walk.specs.Sharing.{calls-sharing}
-use Rattle.walk.specs.Slices.{lent, counted, opens-arg, closes-arg}
-use Rattle.walk.specs.Turns.{Falls, falls-wf, lentSlice, Turned, word}
-use lib.Dec.{eqb, eqb→eq, eqb-refl, T, T-not}
+use Rattle.walk.proofs.Prelude.{_≡_, refl, sym, _∙_, ap, subst, ℕ, _<_, _≤_, _^_, _*_, _+_, _-_, arith, List, [], _∷_, ltb→lt, nltb→le, lit<, URA, fullShare, Ty, named, imm, w64, tyBool, tyPtr, tyRef, Val, vint, vptr, SProp, ent, sep, Lft, Share, GName, Fml, ftrue, fat, froom, fdies, flft, fobs, fauth, fobor, Memory, Routine, Heap, Env, afterTurn, Calls, Loops, WpFn, Tables, Atoms, sem, Fun, givenOf, tables, tablesOf, Given, Item, ‵, _⊛_, runs, anyQ, atRet, Sq, _$_, _∵_, !, qed, by, move, keep, drop, split, join, rewrite, fsplit, fjoin, suffices, frame, done, look, look-raw, init, store, store-raw, forget, stop, hop, fld, from, load, lit, false-lit, of-opd, and-then, no-more, bin, assigns, assigns-last, land, first, skips, jumps, blocks, branches, returns, enter, alloc1, alloc0, params1, pass1, pass0, free1, free0, exec, again, loops, agg, whole, sub, look-in, fmOf, WpFn-mono, owns, Is, shows, pointee, uint-vals, uint-tells, u32, usize, RefT, MutSlice, Room, heres, codedHoleys, slice-vals, mut-slice-tells, Held, row, elem-out, elem-back, elem-put, nothing, onEntry, needs, Meets, tripleOf, Triple, entered, cited, says, Stays, stay-dropped, stay-slice, walkOf, goes-dropped, goes-slice, Walks, ends-at, walked, walk-meets, yes, plain, arrayOf}
+use Rattle.walk.proofs.ByValue.{after, Result}
+use Rattle.walk.proofs.Kind.{wordsK, vals, Good, good, val-is, typed, have}
+use Rattle.walk.proofs.Sharing.{calls-sharing}
+use Rattle.walk.proofs.Slices.{lent, counted, opens-arg, closes-arg}
+use Rattle.walk.proofs.Turns.{Falls, falls-wf, lentSlice, Turned, word}
+use mathlib.Core.Bool.{false}
+use Rattle.model.proofs.Basics.{true-eq, false-eq}
 use lib.ListN.{length, set, getD}
 use denote.Ref.{ShrRef, ptr-vals, shr-tells, shr-copy}
 use denote.Signature.{shrRefTo}
@@ -17,12 +18,12 @@ use Rattle.model.specs.Lent.{noConstraint}
 use Rattle.model.specs.Polygraph.{reach}
 use Rattle.model.proofs.Constraint.Laws as C′
 use Rattle.graph.proofs.Constraints.{conK, R, slot-is, fits}
-use Rattle.pruning.specs.declared.Verdict.{Verdict}
+use Rattle.pruning.specs.declared.Resolution.{Resolution}
 use Rattle.pruning.specs.declared.Hit.{Hit}
 use Rattle.pruning.specs.Passes.{Aims, Skimmed}
-use Rattle.pruning.proofs.Verdict.Laws as J′
+use Rattle.pruning.proofs.Resolution.Laws as J′
 use Rattle.pruning.proofs.Hit.Laws as T′
-use Rattle.pruning.proofs.Data.{verdictK, hitK, of-verdict, verdict-ok, hit-ok}
+use Rattle.pruning.proofs.Data.{verdictK, hitK, of-resolution, resolution-ok, hit-ok}
 use Rattle.pruning.proofs.Turns.{Upto, Idle, upto-none, upto-next, upto-idle, upto-hit, upto-stop}
 use Rattle.pruning.proofs.Callees.{Judged, Judge, judge-shares}
 use Rattle.pruning.proofs.judge.Symbol as judge-def
@@ -81,7 +82,7 @@ module _ {M : Type 1} (𝓤 : URA M) (H : Heap 𝓤) (A : Atoms 𝓤) (W : Given
     i : ℕ
     j : ℕ
     l : List Constraint
-    w : Verdict
+    w : Resolution
     w-ok : Good verdictK w
     idle : Idle closed ys at₀ kept₀ end₀ w
     known : Upto closed ys at₀ kept₀ end₀ i j l
@@ -89,14 +90,14 @@ module _ {M : Type 1} (𝓤 : URA M) (H : Heap 𝓤) (A : Atoms 𝓤) (W : Given
   abbrev left : State → ℕ
   left t = end₀ - t .i
 
-  abbrev zero-verdict : Verdict
-  zero-verdict = record { drops = 0; from = 0; to = 0 }
+  abbrev zero-resolution : Resolution
+  zero-resolution = record { drops = false; from = 0; to = 0 }
 
-  zero-ok : Good verdictK zero-verdict
-  zero-ok = verdict-ok 0 0 0 (lit< tt) (lit< tt) (lit< tt)
+  zero-ok : Good verdictK zero-resolution
+  zero-ok = resolution-ok false 0 0 (lit< tt) (lit< tt)
 
   abbrev begin : State
-  begin = record { i = at₀; j = kept₀; l = ys; w = zero-verdict; w-ok = zero-ok; idle = λ g e. (refl, refl); known = upto-none closed ys at₀ kept₀ end₀ kept-low at-low aims }
+  begin = record { i = at₀; j = kept₀; l = ys; w = zero-resolution; w-ok = zero-ok; idle = λ g e. (refl, refl); known = upto-none closed ys at₀ kept₀ end₀ kept-low at-low aims }
 
   module _ (𝓣 : Tables 𝓤 H) (known : Triple 𝓤 (𝓣 .C #pruning·judge) (Judge 𝓤 H A mem run)) (l₀ l₁ l₂ l₃ l₄ l₅ l₆ l₇ l₈ l₉ l₁₀ l₁₁ l₁₂ l₁₃ l₁₄ : ℕ) where
     abbrev C : Calls 𝓤 H
@@ -114,7 +115,7 @@ module _ {M : Type 1} (𝓤 : URA M) (H : Heap 𝓤) (A : Atoms 𝓤) (W : Given
     abbrev En : Env 𝓤 H
     En = (T′.mir, l₀) ∷ (ref, l₁) ∷ (slice, l₂) ∷ (word, l₃) ∷ (word, l₄) ∷ (word, l₅) ∷ (word, l₆) ∷ (word, l₇) ∷ (J′.mir, l₈) ∷ (C′.mir, l₉) ∷ (tyBool, l₁₀) ∷ (word, l₁₁) ∷ (tyPtr, l₁₂) ∷ (C′.mir, l₁₃) ∷ (tyPtr, l₁₄) ∷ []
 
-    abbrev Holds : ℕ → ℕ → List Constraint → Verdict → List (Item 𝓤)
+    abbrev Holds : ℕ → ℕ → List Constraint → Resolution → List (Item 𝓤)
     Holds i j l w = ‵ (row R fullShare l b o) ∷ ‵ (fobor κ₁ q₁ (Held R (length ys) b o γ)) ∷ ‵ (fobs γ (codedHoleys R .code (heres R ys))) ∷ ‵ (fauth γ (codedHoleys R .code (heres R ys))) ∷ ‵ Rows ∷ ‵ (flft κ₀ q₀)
         ∷ ‵ (froom tyPtr l₁₄ 0) ∷ ‵ (fdies tyPtr l₁₄) ∷ ‵ (froom C′.mir l₁₃ 0) ∷ ‵ (fdies C′.mir l₁₃) ∷ ‵ (froom tyPtr l₁₂ 0) ∷ ‵ (fdies tyPtr l₁₂) ∷ ‵ (froom word l₁₁ 0) ∷ ‵ (fdies word l₁₁)
         ∷ ‵ (froom tyBool l₁₀ 0) ∷ ‵ (fdies tyBool l₁₀) ∷ ‵ (froom C′.mir l₉ 0) ∷ ‵ (fdies C′.mir l₉) ∷ ‵ (fat fullShare J′.mir l₈ 0 (verdictK .val w)) ∷ ‵ (fdies J′.mir l₈)
@@ -126,9 +127,9 @@ module _ {M : Type 1} (𝓤 : URA M) (H : Heap 𝓤) (A : Atoms 𝓤) (W : Given
     At t = Holds (t .i) (t .j) (t .l) (t .w)
 
     -- the loop is left: the borrow is closed, and the rest of the body runs
-    ended : (i j : ℕ) (l : List Constraint) (w : Verdict) → Good verdictK w → Upto closed ys at₀ kept₀ end₀ i j l → Says (record { at = i; kept = j; from = w .from; to = w .to }) l → Sq W (Holds i j l w) (runs C Λ En body.t-5 (atRet En Post))
+    ended : (i j : ℕ) (l : List Constraint) (w : Resolution) → Good verdictK w → Upto closed ys at₀ kept₀ end₀ i j l → Says (record { at = i; kept = j; from = w .from; to = w .to }) l → Sq W (Holds i j l w) (runs C Λ En body.t-5 (atRet En Post))
     ended i j l w w-ok u e =
-        let r : Hit = record { at = i; kept = j; from = w .from; to = w .to } in let side = of-verdict w _ w-ok in
+        let r : Hit = record { at = i; kept = j; from = w .from; to = w .to } in let side = of-resolution w _ w-ok in
         let ok : Good hitK r = hit-ok r (omega (arith, u .high)) (omega (arith, u .high, u .behind)) (side .0) (side .1) in
         closes-arg ! tt R (named 1) (length ys) ys l refl (u .len) room b o $
         -- [what list owns; its token; the rows; their token; _14 at 4; _13 at 6; _12 at 8; _11 at 10; _10 at 12; _9 at 14; _8 at 16; _7 at 18; _6 at 20; _5 at 22; _4 at 24; _3 at 26; _2 at 28; _1 at 30; _0 at 32]
@@ -161,14 +162,14 @@ module _ {M : Type 1} (𝓤 : URA M) (H : Heap 𝓤) (A : Atoms 𝓤) (W : Given
         move ! (4 ∷ 5 ∷ []) $
         calls-sharing ! (fmOf 𝓤 H (W .laws) 𝓣) Rows (shr-copy 𝓤 H A W (named 0) κ₀ (wordsK 32 .row) .twice r₀ (s₀ ∷ [])) κ₀ q₀ (Result (verdictK .row) (Judged closed c)) (judge-shares 𝓤 H A mem run W C (fmOf 𝓤 H (W .laws) 𝓣) known κ₀ q₀ r₀ c c-ok (t .known .aims (t .i) lt))
         (λ i j. and-then ! (load ! (from ! (stop !)) (look ! 32 refl)) (and-then ! (load ! (from ! (stop !)) (look ! 16 refl)) (no-more !))) (λ u gave.
-        let v : Verdict = gave .0 in let e : Judged closed c v = gave .1 .0 in let v-ok : Good verdictK v = good verdictK v u (gave .1 .1) in
+        let v : Resolution = gave .0 in let judged : Judged closed c v = gave .1 .0 in let e = judged .1 in let v-ok : Good verdictK v = good verdictK v u (gave .1 .1) in
         land ! (from ! (stop !)) (store ! 18 refl (typed verdictK 𝓤 H A W v u (gave .1 .1) .0)) $ rewrite ! 18 (λ (w : Val). ‵ (fat fullShare J′.mir l₈ 0 w)) (val-is verdictK v u (gave .1 .1)) refl $ move ! (2 ∷ 3 ∷ 4 ∷ 5 ∷ []) $
-        -- if v.drops == 1 { break; }
-        assigns ! (bin ! (load ! (from ! (fld ! refl (stop !))) (look-in ! 18 (sub ! 0 refl (whole !)))) (lit ! tt) tt) (from ! (stop !)) (store ! 14 refl (tt, tt)) $
+        -- if v.drops { break; }
+        assigns ! (of-opd ! (load ! (from ! (fld ! refl (stop !))) (look-in ! 18 (sub ! 0 refl (whole !))))) (from ! (stop !)) (store ! 14 refl (tt, tt)) $
         first ! $ branches ! (load ! (from ! (stop !)) (look ! 14 refl))
         (λ drops. jumps ! $ exec ! C Λ En body.t-5 (atRet En Post) $ forget ! 8 refl $ forget ! 10 refl $ forget ! 12 refl $ forget ! 14 refl $ forget ! 16 refl $
-        ended (t .i) (t .j) (t .l) v v-ok (t .known) (upto-hit closed ys at₀ kept₀ end₀ (t .i) (t .j) (t .l) v (t .known) within e lt (eqb→eq (v .drops) 1 drops)))
-        (λ stays. let stays-on : (v .drops ≡ 1 → ⊥) = (λ z. T-not (eqb (v .drops) 1) stays (subst (λ (k : ℕ). T (eqb k 1)) (sym z) (eqb-refl 1))) in
+        ended (t .i) (t .j) (t .l) v v-ok (t .known) (upto-hit closed ys at₀ kept₀ end₀ (t .i) (t .j) (t .l) v (t .known) within e lt (true-eq (v .drops) drops)))
+        (λ stays. let stays-on : v .drops ≡ false = false-eq (v .drops) stays in
         skips ! $ exec ! C Λ En (after (after (after (after (after (after (after (after (after body.turn-1))))))))) (anyQ (Turned 𝓤 H A 𝓣 En Post body.t-5 (Falls left) At t)) $
         -- list[j] = c
         assigns ! (bin ! (load ! (from ! (stop !)) (look ! 20 refl)) (lit ! tt) (record { fits = j-fits })) (from ! (stop !)) (store ! 12 refl (tt, record { fits = j-fits })) $
@@ -197,7 +198,7 @@ module _ {M : Type 1} (𝓤 : URA M) (H : Heap 𝓤) (A : Atoms 𝓤) (W : Given
       pass1 ! (init ! 26 refl (tt, tt)) $ pass1 ! (init ! 24 refl (tt, (tt, (record { fits = room .0 }, tt)))) $ pass1 ! (init ! 22 refl (tt, record { fits = at-fits })) $ pass1 ! (init ! 20 refl (tt, record { fits = kept-fits })) $ pass1 ! (init ! 18 refl (tt, record { fits = end-fits })) $ pass0 ! $
       assigns ! (of-opd ! (load ! (from ! (stop !)) (look ! 22 refl))) (from ! (stop !)) (init ! 16 refl (tt, record { fits = at-fits })) $
       assigns ! (of-opd ! (load ! (from ! (stop !)) (look ! 20 refl))) (from ! (stop !)) (init ! 14 refl (tt, record { fits = kept-fits })) $
-      assigns ! (agg ! (and-then ! (lit ! tt) (and-then ! (lit ! tt) (and-then ! (lit ! tt) (no-more !))))) (from ! (stop !)) (init ! 12 refl (typed verdictK 𝓤 H A W zero-verdict _ zero-ok .0)) $
+      assigns ! (agg ! (and-then ! (false-lit !) (and-then ! (lit ! tt) (and-then ! (lit ! tt) (no-more !))))) (from ! (stop !)) (init ! 12 refl (typed verdictK 𝓤 H A W zero-resolution _ zero-ok .0)) $
       move ! (30 ∷ 31 ∷ 32 ∷ 33 ∷ []) $ opens-arg ! tt R (named 1) (length ys) ys b o $ looped 𝓣 known l₀ l₁ l₂ l₃ l₄ l₅ l₆ l₇ l₈ l₉ l₁₀ l₁₁ l₁₂ l₁₃ l₁₄)))))))))))))))
 
 module _ {M : Type 1} (𝓤 : URA M) (H : Heap 𝓤) (A : Atoms 𝓤) (W : Given 𝓤 H A) (mem : Memory → SProp 𝓤) (run : Routine → Fun 𝓤) (𝓣 : Tables 𝓤 H) (known : Triple 𝓤 (𝓣 .C #pruning·judge) (Judge 𝓤 H A mem run)) where

@@ -1,7 +1,6 @@
 -- `replay::is_legal` meets its contract. Assumes nothing.
 use Rattle.replay.proofs.Judging.{legal-no, legal-by}
 use Rattle.replay.proofs.Placing.{order-places}
-use mathlib.Core.Path.{_≡_}
 use borrow.Author.Tests.{not-true, not-false}
 use borrow.Author.Needs.{needs}
 use Rattle.replay.proofs.is_legal.Statement.{statement}

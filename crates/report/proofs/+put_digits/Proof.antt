@@ -31,7 +31,7 @@ put-digits-returns : (t : ℕ) → put-digits-lts.Need-returns (
   put-digits-below t,
   put-digits.Post,
 ) (put-digits-at t) put-digits.Post
-put-digits-returns t c = wrote-as (sym (digits-none _ _ (c .if1 .taken))) (wrote-none _ _)
+put-digits-returns t c = wrote-as (sym (digits-none _ _ (c .if1 .taken))) (wrote-none _ _ (omega arith))
 
 put-digits-cast-push : (t : ℕ) → put-digits-lts.Need-cast-push (
   push-reads.Asked,

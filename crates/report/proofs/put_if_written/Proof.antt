@@ -1,4 +1,5 @@
 -- `report::put_if_written` meets its contract. Assumes nothing.
+use native.Mathlib.Omega.{arith}
 use Rattle.report.proofs.Texts.{wrote-none, wrote-as}
 use Rattle.report.specs.Text.{lineIf}
 use mathlib.Core.Path.{ap, sym}
@@ -24,7 +25,7 @@ returns-2 : tie.Need-returns-2
 unfolding lineIf
 returns-2 c =
     let a = c .before .before .args in
-    wrote-as (ap (λ (b : Bool). lineIf (not b) (a .key) (a .value)) (sym (eq-eqb _ _ (c .if1 .left)))) (wrote-none _ _)
+    wrote-as (ap (λ (b : Bool). lineIf (not b) (a .key) (a .value)) (sym (eq-eqb _ _ (c .if1 .left)))) (wrote-none _ _ (omega arith))
 
 pub put-if-written-spec : {M : Type 1} → statement M
 put-if-written-spec = tie.close (tie.spec put-key-requires same-length returns returns-2)

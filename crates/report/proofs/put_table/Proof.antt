@@ -15,7 +15,7 @@ abbrev μ-loop : tie.MeasureT-loop
 μ-loop out₀ at writers table end₀ k₀ out end k = 32 - k
 
 loop-holds : tie.Need-loop-holds Inv-loop μ-loop
-loop-holds c = (omega arith, wrote-as (sym (table-none _ _)) (wrote-none _ _))
+loop-holds c = (omega arith, wrote-as (sym (table-none _ _)) (wrote-none _ _ (omega arith)))
 
 mul-put-if-written : tie.Need-mul-put-if-written Inv-loop μ-loop
 mul-put-if-written c = search needs

@@ -1,4 +1,5 @@
 -- `search::walk` meets its contract, and the calls that stand one in another are at most as many as pairs stand in no order. Assumes nothing.
+use Rattle.search.proofs.Steps.{room-at}
 use Rattle.search.proofs.Walks.{walk-stuck, prune-fit, walk-leaf, nodes, off-A, off-B, falls-A, falls-B, ready-A, ready-B, chosen-A, chosen-B}
 use Rattle.search.specs.Steps.{openPairs}
 use mathlib.Core.Path.{subst}
@@ -9,7 +10,7 @@ use borrow.Fn.PlainCycle.{Measures, is, falls, and}
 use Rattle.search.proofs.walk.Reads as walk
 use Rattle.search.proofs.walk.Kinds as walk-kinds
 use Rattle.search.proofs.+walk.Lts-walk as walk-lts
-use Rattle.search.proofs.con_at.Reads as con-at-reads
+use Rattle.search.proofs.constraint_at.Reads as constraint-at-reads
 use Rattle.search.proofs.drop_at.Reads as drop-at-reads
 use Rattle.search.proofs.next_choice.Reads as next-choice-reads
 use Rattle.search.proofs.prune.Reads as prune-reads
@@ -35,8 +36,8 @@ claims t = (
   next-choice-reads.Learnt,
   drop-at-reads.Asked,
   drop-at-reads.Learnt,
-  con-at-reads.Asked,
-  con-at-reads.Learnt,
+  constraint-at-reads.Asked,
+  constraint-at-reads.Learnt,
   take-reads.Asked,
   take-reads.Learnt,
   walk-below t,
@@ -58,8 +59,8 @@ walk-returns-2 t c = walk-leaf _ _ _ _ _ _ _ (c .before .before .before .before 
 walk-drop-at-requires : (t : ℕ) → walk-lts.Need-drop-at-requires (claims t) (walk-at t) walk.Post
 walk-drop-at-requires t c κs = (omega (arith, c .before .if2 .left, c .before .before .before .before .before .before .before .before .before .before .before .pre .1 .given .few), c .before .before .next-choice .ensures .some (c .before .if2 .left) .0)
 
-walk-con-at-requires : (t : ℕ) → walk-lts.Need-con-at-requires (claims t) (walk-at t) walk.Post
-walk-con-at-requires t c κs = (c .before .before .if2 .left, c .before .before .before .before .before .before .before .before .before .before .before .before .pre .1 .given)
+walk-constraint-at-requires : (t : ℕ) → walk-lts.Need-constraint-at-requires (claims t) (walk-at t) walk.Post
+walk-constraint-at-requires t c κs = room-at _ _ _ (c .before .before .before .before .before .before .before .before .before .before .before .before .pre .1 .given) (c .before .before .if2 .left)
 
 walk-take-requires : (t : ℕ) → walk-lts.Need-take-requires (claims t) (walk-at t) walk.Post
 walk-take-requires t c κs =
@@ -68,7 +69,7 @@ walk-take-requires t c κs =
     let g = c .before .before .before .before .before .before .before .before .before .before .before .before .before .pre .1 .given in
     let h = c .before .before .before .if2 .left in
     let y = c .before .before .before .before .next-choice .ensures in
-    (p .narrowed q .grown .partial, nodes _ _ _ _ _ _ _ p q g _ h y _ (c .con-at .ensures) .0, off-A _ _ _ _ _ _ _ p q g _ h y _ (c .con-at .ensures))
+    (p .narrowed q .grown .partial, nodes _ _ _ _ _ _ _ p q g _ h y _ (c .constraint-at .ensures) .0, off-A _ _ _ _ _ _ _ p q g _ h y _ (c .constraint-at .ensures))
 
 walk-walk-requires : (t : ℕ) → walk-lts.Need-walk-requires (claims t) (walk-at t) walk.Post
 walk-walk-requires t c κs =
@@ -77,14 +78,14 @@ walk-walk-requires t c κs =
     let q = c .before .before .before .before .before .before .before .before .before .if1 .left in
     let h = c .before .before .before .before .before .if2 .left in
     let y = c .before .before .before .before .before .before .next-choice .ensures in (
-      subst (λ (x : ℕ). openPairs (c .before .take .result) < x) (b .pre .0) (falls-A _ _ _ _ _ _ _ p q (b .pre .1 .given) _ h y _ (c .before .before .con-at .ensures) _ (c .before .before .before .drop-at .ensures) _ (c .before .take .ensures)),
-      ready-A _ _ _ _ _ _ _ p q (b .pre .1 .given) _ h y _ (c .before .before .con-at .ensures) _ (c .before .before .before .drop-at .ensures) _ (c .before .take .ensures) (b .pre .1 .fit),
+      subst (λ (x : ℕ). openPairs (c .before .take .result) < x) (b .pre .0) (falls-A _ _ _ _ _ _ _ p q (b .pre .1 .given) _ h y _ (c .before .before .constraint-at .ensures) _ (c .before .before .before .drop-at .ensures) _ (c .before .take .ensures)),
+      ready-A _ _ _ _ _ _ _ p q (b .pre .1 .given) _ h y _ (c .before .before .constraint-at .ensures) _ (c .before .before .before .drop-at .ensures) _ (c .before .take .ensures) (b .pre .1 .fit),
     )
 
 walk-returns-3 : (t : ℕ) → walk-lts.Need-returns-3 (claims t) (walk-at t) walk.Post
 walk-returns-3 t c =
     let b = c .before .before .before .before .before .before .before .before .before .before .before .before .before .before .before .before .before in
-    chosen-A _ _ _ _ _ _ _ (c .before .before .before .before .before .before .before .before .before .before .before .before .before .prune .ensures) (c .before .before .before .before .before .before .before .before .before .before .before .if1 .left) (b .pre .1 .given) _ (c .before .before .before .before .before .before .before .if2 .left) (c .before .before .before .before .before .before .before .before .next-choice .ensures) _ (c .before .before .before .before .con-at .ensures) _ (c .before .before .before .before .before .drop-at .ensures) _ (c .before .before .before .take .ensures) _ _ (c .before .walk .ensures) (c .if3 .taken)
+    chosen-A _ _ _ _ _ _ _ (c .before .before .before .before .before .before .before .before .before .before .before .before .before .prune .ensures) (c .before .before .before .before .before .before .before .before .before .before .before .if1 .left) (b .pre .1 .given) _ (c .before .before .before .before .before .before .before .if2 .left) (c .before .before .before .before .before .before .before .before .next-choice .ensures) _ (c .before .before .before .before .constraint-at .ensures) _ (c .before .before .before .before .before .drop-at .ensures) _ (c .before .before .before .take .ensures) _ _ (c .before .walk .ensures) (c .if3 .taken)
 
 walk-take-requires-2 : (t : ℕ) → walk-lts.Need-take-requires-2 (claims t) (walk-at t) walk.Post
 walk-take-requires-2 t c κs =
@@ -93,7 +94,7 @@ walk-take-requires-2 t c κs =
     let g = c .before .before .before .before .before .before .before .before .before .before .before .before .before .before .before .before .before .pre .1 .given in
     let h = c .before .before .before .before .before .before .before .if2 .left in
     let y = c .before .before .before .before .before .before .before .before .next-choice .ensures in
-    (p .narrowed q .grown .partial, nodes _ _ _ _ _ _ _ p q g _ h y _ (c .before .before .before .before .con-at .ensures) .1, off-B _ _ _ _ _ _ _ p q g _ h y _ (c .before .before .before .before .con-at .ensures))
+    (p .narrowed q .grown .partial, nodes _ _ _ _ _ _ _ p q g _ h y _ (c .before .before .before .before .constraint-at .ensures) .1, off-B _ _ _ _ _ _ _ p q g _ h y _ (c .before .before .before .before .constraint-at .ensures))
 
 walk-walk-requires-2 : (t : ℕ) → walk-lts.Need-walk-requires-2 (claims t) (walk-at t) walk.Post
 walk-walk-requires-2 t c κs =
@@ -102,14 +103,14 @@ walk-walk-requires-2 t c κs =
     let q = c .before .before .before .before .before .before .before .before .before .before .before .before .before .if1 .left in
     let h = c .before .before .before .before .before .before .before .before .before .if2 .left in
     let y = c .before .before .before .before .before .before .before .before .before .before .next-choice .ensures in (
-      subst (λ (x : ℕ). openPairs (c .before .take2 .result) < x) (b .pre .0) (falls-B _ _ _ _ _ _ _ p q (b .pre .1 .given) _ h y _ (c .before .before .before .before .before .before .con-at .ensures) _ (c .before .before .before .before .before .before .before .drop-at .ensures) _ (c .before .before .before .before .before .take .ensures) _ (c .before .take2 .ensures)),
-      ready-B _ _ _ _ _ _ _ p q (b .pre .1 .given) _ h y _ (c .before .before .before .before .before .before .con-at .ensures) _ (c .before .before .before .before .before .before .before .drop-at .ensures) _ (c .before .before .before .before .before .take .ensures) _ (c .before .take2 .ensures) (b .pre .1 .fit),
+      subst (λ (x : ℕ). openPairs (c .before .take2 .result) < x) (b .pre .0) (falls-B _ _ _ _ _ _ _ p q (b .pre .1 .given) _ h y _ (c .before .before .before .before .before .before .constraint-at .ensures) _ (c .before .before .before .before .before .before .before .drop-at .ensures) _ (c .before .before .before .before .before .take .ensures) _ (c .before .take2 .ensures)),
+      ready-B _ _ _ _ _ _ _ p q (b .pre .1 .given) _ h y _ (c .before .before .before .before .before .before .constraint-at .ensures) _ (c .before .before .before .before .before .before .before .drop-at .ensures) _ (c .before .before .before .before .before .take .ensures) _ (c .before .take2 .ensures) (b .pre .1 .fit),
     )
 
 walk-returns-4 : (t : ℕ) → walk-lts.Need-returns-4 (claims t) (walk-at t) walk.Post
 walk-returns-4 t c =
     let b = c .before .before .before .before .before .before .before .before .before .before .before .before .before .before .before .before .before .before .before .before in
-    chosen-B _ _ _ _ _ _ _ (c .before .before .before .before .before .before .before .before .before .before .before .before .before .before .before .before .prune .ensures) (c .before .before .before .before .before .before .before .before .before .before .before .before .before .before .if1 .left) (b .pre .1 .given) _ (c .before .before .before .before .before .before .before .before .before .before .if2 .left) (c .before .before .before .before .before .before .before .before .before .before .before .next-choice .ensures) _ (c .before .before .before .before .before .before .before .con-at .ensures) _ (c .before .before .before .before .before .before .before .before .drop-at .ensures) _ (c .before .before .before .before .before .before .take .ensures) _ (c .before .before .take2 .ensures) _ _ (c .before .before .before .before .walk .ensures) (c .before .before .before .if3 .left) _ _ (c .walk2 .ensures)
+    chosen-B _ _ _ _ _ _ _ (c .before .before .before .before .before .before .before .before .before .before .before .before .before .before .before .before .prune .ensures) (c .before .before .before .before .before .before .before .before .before .before .before .before .before .before .if1 .left) (b .pre .1 .given) _ (c .before .before .before .before .before .before .before .before .before .before .if2 .left) (c .before .before .before .before .before .before .before .before .before .before .before .next-choice .ensures) _ (c .before .before .before .before .before .before .before .constraint-at .ensures) _ (c .before .before .before .before .before .before .before .before .drop-at .ensures) _ (c .before .before .before .before .before .before .take .ensures) _ (c .before .before .take2 .ensures) _ _ (c .before .before .before .before .walk .ensures) (c .before .before .before .if3 .left) _ _ (c .walk2 .ensures)
 
 pub +walk-spec : {M : Type 1} → statement M
 +walk-spec = close μ-walk λ t. walk-lts.spec (claims t)
@@ -120,7 +121,7 @@ pub +walk-spec : {M : Type 1} → statement M
     (walk-next-choice-requires t)
     (walk-returns-2 t)
     (walk-drop-at-requires t)
-    (walk-con-at-requires t)
+    (walk-constraint-at-requires t)
     (walk-take-requires t)
     (walk-walk-requires t)
     (walk-returns-3 t)

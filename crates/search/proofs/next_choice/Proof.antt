@@ -1,5 +1,5 @@
 -- `search::next_choice` meets its contract. Assumes nothing.
-use Rattle.search.proofs.Steps.{nodes-of}
+use Rattle.search.proofs.Steps.{nodes-of, room-at}
 use Rattle.search.proofs.Opens.{choice-none, choice-found, choice-next}
 use Rattle.search.specs.Constraints.{isOpen, conAt}
 use Rattle.search.proofs.Steps.{is-true, is-false, not-true, not-false}
@@ -26,14 +26,14 @@ next-open-requires c κs = let b = c .before .before in (b .pre .1 .few, c .loop
 returns : tie.Need-returns Inv-loop μ-loop
 returns c = choice-none _ _ _ _ _ _ (c .before .before .loop .inv .1) (c .before .next-open .ensures) (c .if1 .taken)
 
-con-at-requires : tie.Need-con-at-requires Inv-loop μ-loop
-con-at-requires c κs = (omega arith, c .before .before .before .before .pre .1)
+constraint-at-requires : tie.Need-constraint-at-requires Inv-loop μ-loop
+constraint-at-requires c κs = room-at _ _ _ (c .before .before .before .before .pre .1) (omega arith)
 
 held-requires : tie.Need-held-requires Inv-loop μ-loop
-held-requires c κs = nodes-of _ _ _ _ (c .before .before .before .before .before .pre .1) (omega arith) (c .con-at .ensures)
+held-requires c κs = nodes-of _ _ _ _ (c .before .before .before .before .before .pre .1) (omega arith) (c .constraint-at .ensures)
 
 returns-2 : tie.Need-returns-2 Inv-loop μ-loop
-returns-2 c = choice-found _ _ _ _ _ _ (c .before .before .before .before .before .loop .inv .1) (c .before .before .before .before .next-open .ensures) (omega arith) (is-false _ _ (c .before .held .ensures ∙ ap (held _) (c .before .before .con-at .ensures)) (not-true _ (c .if2 .taken)))
+returns-2 c = choice-found _ _ _ _ _ _ (c .before .before .before .before .before .loop .inv .1) (c .before .before .before .before .next-open .ensures) (omega arith) (is-false _ _ (c .before .held .ensures ∙ ap (held _) (c .before .before .constraint-at .ensures)) (not-true _ (c .if2 .taken)))
 
 add-i : tie.Need-add-i Inv-loop μ-loop
 add-i c = omega (arith, c .before .before .before .before .before .before .before .pre .1 .few)
@@ -42,7 +42,7 @@ loop-less : tie.Need-loop-less Inv-loop μ-loop
 loop-less c = omega (arith, c .before .before .before .before .next-open .ensures .bound)
 
 loop-again : tie.Need-loop-again Inv-loop μ-loop
-loop-again c = let b = c .before .before .before .before .before .before .before in (omega arith, choice-next (b .args .words .now) (b .args .rows .now) (b .args .left .now) (b .args .n) _ _ (c .before .before .before .before .before .loop .inv .1) (c .before .before .before .before .next-open .ensures) (is-true _ _ (c .before .held .ensures ∙ ap (held _) (c .before .before .con-at .ensures)) (not-false _ (c .if2 .left))))
+loop-again c = let b = c .before .before .before .before .before .before .before in (omega arith, choice-next (b .args .words .now) (b .args .rows .now) (b .args .left .now) (b .args .n) _ _ (c .before .before .before .before .before .loop .inv .1) (c .before .before .before .before .next-open .ensures) (is-true _ _ (c .before .held .ensures ∙ ap (held _) (c .before .before .constraint-at .ensures)) (not-false _ (c .if2 .left))))
 
 pub next-choice-spec : {M : Type 1} → statement M
 next-choice-spec =
@@ -53,7 +53,7 @@ next-choice-spec =
     loop-holds
     next-open-requires
     returns
-    con-at-requires
+    constraint-at-requires
     held-requires
     returns-2
     add-i

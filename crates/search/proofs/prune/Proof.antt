@@ -4,7 +4,7 @@ use Rattle.search.specs.Constraints.{openCount}
 use Prim.Native.Nat.{_+_, _*_, _-_}
 use mathlib.Core.Path.{sym, subst}
 use native.Mathlib.Omega.{arith}
-use Rattle.search.proofs.Steps.{nodes-of, last-node, is-true, is-false, off-is}
+use Rattle.search.proofs.Steps.{nodes-of, last-node, is-true, is-false, off-is, room-at}
 use Rattle.search.specs.Steps.{shut}
 use lib.Dec.{T}
 use Rattle.model.specs.declared.Constraint.{Constraint}
@@ -25,27 +25,27 @@ next-hit-requires c κs = let b = c .before .before .before .before in
     let l = c .before .before .loop in
     (l .inv .from, l .inv .stops, l .inv .narrowed .grown .partial .closed, λ i t. b .pre .fit i (l .inv .narrowed .fewer i t), b .pre .given)
 
-con-at-requires : tie.Need-con-at-requires Inv-loop μ-loop
-con-at-requires c κs = (omega (arith, c .before .before .before .before .loop .inv .stops), c .before .before .before .before .before .before .pre .given)
+constraint-at-requires : tie.Need-constraint-at-requires Inv-loop μ-loop
+constraint-at-requires c κs = room-at _ _ _ (c .before .before .before .before .before .before .pre .given) (omega (arith, c .before .before .before .before .loop .inv .stops))
 
 last-side-requires : tie.Need-last-side-requires Inv-loop μ-loop
 last-side-requires c κs = let l = c .before .before .before .before .before .before .loop in
-    let e = c .before .con-at .ensures in
+    let e = c .before .constraint-at .ensures in
     let x = nodes-of _ _ _ _ (c .before .before .before .before .before .before .before .before .pre .given) (omega (arith, l .inv .stops)) e in
     (x .0, x .1, l .inv .narrowed .grown .partial .closed, subst (λ (k : Constraint). T (shut (l .c) k)) (sym e) (c .before .before .before .next-hit .ensures .some (c .before .before .if1 .taken) .1))
 
 closed-off-requires : tie.Need-closed-off-requires Inv-loop μ-loop
 closed-off-requires c κs = let l = c .before .before .before .before .before .before .before .before .loop in
-    last-node _ _ _ _ (nodes-of _ _ _ _ (c .before .before .before .before .before .before .before .before .before .before .pre .given) (omega (arith, l .inv .stops)) (c .before .before .before .con-at .ensures)) (c .before .last-side .ensures)
+    last-node _ _ _ _ (nodes-of _ _ _ _ (c .before .before .before .before .before .before .before .before .before .before .pre .given) (omega (arith, l .inv .stops)) (c .before .before .before .constraint-at .ensures)) (c .before .last-side .ensures)
 
 returns : tie.Need-returns Inv-loop μ-loop
 returns c = let b = c .before .before .before .before .before .before .before .before .before .before .before .before in
     let l = c .before .before .before .before .before .before .before .before .before .before .loop in
-    pruning-stuck _ _ _ _ _ _ (b .pre .fit) _ _ _ (l .inv) _ (c .before .before .before .before .before .before .before .next-hit .ensures) (c .before .before .before .before .before .before .if1 .taken) _ (c .before .before .before .before .before .con-at .ensures) _ _ (c .before .before .before .last-side .ensures) (is-true _ _ (off-is _ _ _ _ (l .inv .narrowed .grown .partial .closed) (c .before .closed-off .ensures)) (c .if2 .taken))
+    pruning-stuck _ _ _ _ _ _ (b .pre .fit) _ _ _ (l .inv) _ (c .before .before .before .before .before .before .before .next-hit .ensures) (c .before .before .before .before .before .before .if1 .taken) _ (c .before .before .before .before .before .constraint-at .ensures) _ _ (c .before .before .before .last-side .ensures) (is-true _ _ (off-is _ _ _ _ (l .inv .narrowed .grown .partial .closed) (c .before .closed-off .ensures)) (c .if2 .taken))
 
 take-requires : tie.Need-take-requires Inv-loop μ-loop
 take-requires c κs = let l = c .before .before .before .before .before .before .before .before .before .before .loop in
-    (l .inv .narrowed .grown .partial, last-node _ _ _ _ (nodes-of _ _ _ _ (c .before .before .before .before .before .before .before .before .before .before .before .before .pre .given) (omega (arith, l .inv .stops)) (c .before .before .before .before .before .con-at .ensures)) (c .before .before .before .last-side .ensures), is-false _ _ (off-is _ _ _ _ (l .inv .narrowed .grown .partial .closed) (c .before .closed-off .ensures)) (c .if2 .left))
+    (l .inv .narrowed .grown .partial, last-node _ _ _ _ (nodes-of _ _ _ _ (c .before .before .before .before .before .before .before .before .before .before .before .before .pre .given) (omega (arith, l .inv .stops)) (c .before .before .before .before .before .constraint-at .ensures)) (c .before .before .before .last-side .ensures), is-false _ _ (off-is _ _ _ _ (l .inv .narrowed .grown .partial .closed) (c .before .closed-off .ensures)) (c .if2 .left))
 
 drop-at-requires : tie.Need-drop-at-requires Inv-loop μ-loop
 drop-at-requires c κs = let l = c .before .before .before .before .before .before .before .before .before .before .before .before .loop in
@@ -62,7 +62,7 @@ loop-less c = let b = c .before .before .before .before .before .before .before 
 
 loop-again : tie.Need-loop-again Inv-loop μ-loop
 loop-again c = let l = c .before .before .before .before .before .before .before .before .before .before .before .before .before .loop in
-    pruning-next _ _ _ _ _ _ (c .before .before .before .before .before .before .before .before .before .before .before .before .before .before .before .pre .fit) _ _ _ (l .inv) _ (c .before .before .before .before .before .before .before .before .before .before .next-hit .ensures) (c .before .before .before .before .before .before .before .before .before .if1 .taken) _ (c .before .before .before .before .before .before .before .before .con-at .ensures) _ _ (c .before .before .before .before .before .before .last-side .ensures) _ (c .before .before .take .ensures) _ (c .drop-at .ensures)
+    pruning-next _ _ _ _ _ _ (c .before .before .before .before .before .before .before .before .before .before .before .before .before .before .before .pre .fit) _ _ _ (l .inv) _ (c .before .before .before .before .before .before .before .before .before .before .next-hit .ensures) (c .before .before .before .before .before .before .before .before .before .if1 .taken) _ (c .before .before .before .before .before .before .before .before .constraint-at .ensures) _ _ (c .before .before .before .before .before .before .last-side .ensures) _ (c .before .before .take .ensures) _ (c .drop-at .ensures)
 
 returns-2 : tie.Need-returns-2 Inv-loop μ-loop
 returns-2 c = let b = c .before .before .before .before .before .before .before in
@@ -85,7 +85,7 @@ prune-spec =
     μ-loop
     loop-holds
     next-hit-requires
-    con-at-requires
+    constraint-at-requires
     last-side-requires
     closed-off-requires
     returns

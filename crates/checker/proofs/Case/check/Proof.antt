@@ -1,7 +1,8 @@
 -- `checker::Case::check` meets its contract. Assumes nothing.
-use Rattle.checker.proofs.Checks.{checking-is, judgement-number, judgement-yes, checked-yes}
-use Rattle.checker.specs.Answers.{judgementNumber, judgementYes}
-use mathlib.Core.Path.{_≡_, ap, _∙_}
+use Rattle.checker.proofs.Checks.{checking-is, checked-yes}
+use Rattle.answers.proofs.Answering.{judgement-number, judgement-yes}
+use Rattle.answers.specs.Numbers.{judgementNumber, judgementYes}
+use mathlib.Core.Path.{ap, _∙_}
 use borrow.Author.Needs.{needs}
 use Rattle.checker.proofs.Case.check.Statement.{statement}
 use Rattle.checker.proofs.Case.check.Tie as tie

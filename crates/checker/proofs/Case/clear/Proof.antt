@@ -1,12 +1,13 @@
 -- `checker::Case::clear` meets its contract. Assumes nothing.
-use Rattle.checker.specs.Cases.{freshCase}
-use mathlib.Core.Path.{refl}
+use borrow.Author.Needs.{needs}
 use Rattle.checker.proofs.Case.clear.Statement.{statement}
 use Rattle.checker.proofs.Case.clear.Tie as tie
 
+fresh-requires : tie.Need-fresh-requires
+fresh-requires c κs = search needs
+
 returns : tie.Need-returns
-unfolding freshCase
-returns c = refl
+returns c = c .fresh .ensures
 
 pub clear-spec : {M : Type 1} → statement M
-clear-spec = tie.close (tie.spec returns)
+clear-spec = tie.close (tie.spec fresh-requires returns)

@@ -1,36 +1,41 @@
--- `checker::Case::decide` meets its contract: a walk of its MIR, by hand. What to do is found out by value; then the list is lent to `write`; the answer is made by value.
+-- `checker::Case::decide` meets its contract: a walk of its MIR, by hand. What to do is found out by value; then the list is lent to `write_left`, beside the tables and the numbers; the case with the answer and the answer are made by value.
 -- Assumes nothing.
-use Rattle.walk.specs.Prelude.{_≡_, refl, ℕ, _<_, _^_, List, [], _∷_, URA, fullShare, named, w8, w64, Val, vint, SProp, ent, sep, Lft, Share, GName, ftrue, fat, flft, Memory, Routine, Heap, Calls, WpFn, Tables, Atoms, sem, Fun, givenOf, tables, tablesOf, Given, ‵, _⊛_, _$_, _∵_, !, qed, by, move, keep, drop, split, join, rewrite, fsplit, fjoin, suffices, frame, done, look, init, forget, stop, hop, fld, from, load, of-opd, and-then, no-more, addr, assigns, land, returns, enter, alloc1, alloc0, params1, pass1, pass0, free1, free0, agg, whole, sub, look-in, fmOf, WpFn-mono, owns, uint-vals, uint-tells, u8, RefT, MutSlice, Room, slice-vals, mut-slice-tells, nothing, onEntry, Meets, tripleOf, Triple, entered, cited, says, Stays, stay-dropped, stay-slice, walkOf, goes-dropped, goes-slice, Walks, ends-at, walked, walk-meets, yes, plain, via, fst∗, emp}
-use Rattle.walk.specs.ByValue.{Result, calls-by-value}
-use Rattle.walk.specs.Kind.{vals, Good, good, val-is, typed, have}
-use Rattle.walk.specs.Lending.{Answer, calls-lending}
-use Rattle.walk.specs.Slices.{lent, counted}
+use Rattle.walk.proofs.Prelude.{unit, nothing-lawful, _≡_, refl, ℕ, _<_, _^_, List, [], _∷_, URA, fullShare, named, w8, Val, vint, SProp, ent, sep, Lft, Share, GName, ftrue, fat, flft, Memory, Routine, Heap, Calls, WpFn, Tables, Atoms, sem, Fun, givenOf, tables, tablesOf, Given, ‵, _⊛_, _$_, _∵_, !, qed, by, move, keep, drop, split, join, rewrite, fsplit, fjoin, suffices, frame, done, look, init, store, forget, stop, hop, fld, from, load, of-opd, and-then, no-more, addr, assigns, land, returns, enter, alloc1, alloc0, params1, pass1, pass0, free1, free0, agg, whole, sub, look-in, fmOf, WpFn-mono, owns, uint-vals, uint-tells, u8, RefT, MutSlice, Room, slice-vals, mut-slice-tells, nothing, onEntry, Meets, tripleOf, Triple, entered, cited, says, Stays, stay-dropped, stay-slice, walkOf, goes-dropped, goes-slice, Walks, ends-at, walked, walk-meets, yes, plain, via, fst∗, emp}
+use Rattle.walk.proofs.ByValue.{Result, calls-by-value}
+use Rattle.walk.proofs.Kind.{vals, Good, good, val-is, typed, have}
+use Rattle.walk.proofs.Lending.{Answer}
+use Rattle.walk.proofs.Locals.{shared}
+use Rattle.walk.proofs.Both.{calls-both}
+use Rattle.walk.proofs.Slices.{lent, counted}
 use lib.ListN.{length}
+use mathlib.Core.Path.{ap, _∙_}
 use Rattle.model.specs.declared.Constraint.{Constraint}
 use Rattle.graph.proofs.Constraints.{R}
-use Rattle.pruning.specs.declared.Pruned.{Pruned}
-use Rattle.pruning.proofs.Data.{prunedK, of-pruned}
-use Rattle.pruning.proofs.Pruned.Laws as L′
-use Rattle.encoding.proofs.write.Symbol as write-def
-use Rattle.encoding.proofs.write.Symbol.{name as #encoding·write}
-use Rattle.encoding.proofs.write.Met as write-thm
+use Rattle.listing.proofs.Data.{tablesK, placesK, Lent₂, lent-twice}
+use Rattle.listing.proofs.Lending.{lends-two, two-back}
+use Rattle.encoding.proofs.write_left.Symbol as write-left-def
+use Rattle.encoding.proofs.write_left.Symbol.{name as #encoding·write-left}
+use Rattle.encoding.proofs.write_left.Met as write-left-thm
 use Rattle.checker.specs.declared.Case.{Case}
 use Rattle.checker.specs.declared.Decision.{Decision}
 use Rattle.checker.specs.declared.deciding.Prepared.{Prepared}
 use Rattle.checker.specs.Decisions.{Decides}
-use Rattle.checker.specs.Preparing.{PreparedFor, answering}
+use Rattle.checker.specs.Preparing.{storing, answering}
+use Rattle.checker.proofs.Case.Laws as C′
 use Rattle.checker.proofs.Decision.Laws as D′
 use Rattle.checker.proofs.deciding.Prepared.Laws as P′
 use Rattle.checker.proofs.Data.{caseK}
-use Rattle.checker.proofs.Callees.{Writes, WriteC, write-left}
-use Rattle.checker.proofs.Lending.{decisionK, preparedK, of-prepared, PrepareC, AnsweredC, prepare-says, answered-says}
-use Rattle.checker.proofs.Preparing.{asked, decides}
+use Rattle.checker.proofs.Lending.{decisionK, preparedK, of-prepared, FoundFor, Wrote, PrepareC, LeftC, StoredC, AnswerC, prepare-says, left-both, stored-says, answer-says}
+use Rattle.checker.proofs.Preparing.{decides}
 use Rattle.checker.proofs.deciding.prepare.Symbol as prepare-def
 use Rattle.checker.proofs.deciding.prepare.Symbol.{name as #checker·deciding·prepare}
 use Rattle.checker.proofs.deciding.prepare.Met as prepare-thm
-use Rattle.checker.proofs.deciding.answered.Symbol as answered-def
-use Rattle.checker.proofs.deciding.answered.Symbol.{name as #checker·deciding·answered}
-use Rattle.checker.proofs.deciding.answered.Met as answered-thm
+use Rattle.checker.proofs.deciding.stored.Symbol as stored-def
+use Rattle.checker.proofs.deciding.stored.Symbol.{name as #checker·deciding·stored}
+use Rattle.checker.proofs.deciding.stored.Met as stored-thm
+use Rattle.checker.proofs.deciding.answer.Symbol as answer-def
+use Rattle.checker.proofs.deciding.answer.Symbol.{name as #checker·deciding·answer}
+use Rattle.checker.proofs.deciding.answer.Met as answer-thm
 use Rattle.checker.proofs.Case.decide.Key.{name as #checker·Case·decide}
 use Rattle.checker.proofs.Case.decide as f
 use Rattle.checker.proofs.Case.decide.Statement as stated
@@ -42,8 +47,9 @@ stayed = (stay-dropped (plain (λ _. caseK .row)) yes, (stay-dropped (plain (λ 
 -- the callees, and that each meets its contract
 record Known {M : Type 1} (𝓤 : URA M) (H : Heap 𝓤) (A : Atoms 𝓤) (mem : Memory → SProp 𝓤) (run : Routine → Fun 𝓤) (C : Calls 𝓤 H) : Type 1 where
   prepare : Triple 𝓤 (C #checker·deciding·prepare) (PrepareC 𝓤 H A mem run)
-  write : Triple 𝓤 (C #encoding·write) (WriteC 𝓤 H A mem run)
-  answered : Triple 𝓤 (C #checker·deciding·answered) (AnsweredC 𝓤 H A mem run)
+  left : Triple 𝓤 (C #encoding·write-left) (LeftC 𝓤 H A mem run)
+  stored : Triple 𝓤 (C #checker·deciding·stored) (StoredC 𝓤 H A mem run)
+  answer : Triple 𝓤 (C #checker·deciding·answer) (AnswerC 𝓤 H A mem run)
 
 module _ {M : Type 1} (𝓤 : URA M) (H : Heap 𝓤) (A : Atoms 𝓤) (W : Given 𝓤 H A) (mem : Memory → SProp 𝓤) (run : Routine → Fun 𝓤) (κ : Lft) (q : Share) (c : Case) (e pruning b o : ℕ) (γ : GName) (ys : List Constraint)
     (c-ok : Good caseK c) (e-fits : e < 2 ^ 8) (p-fits : pruning < 2 ^ 8) (room : Room R (length ys)) where
@@ -75,33 +81,47 @@ module _ {M : Type 1} (𝓤 : URA M) (H : Heap 𝓤) (A : Atoms 𝓤) (W : Given
       qed W ((‵ (flft κ q) ⊛ ‵ ftrue) ∷ ‵ (owns (caseK .row ∷ u8 ∷ u8 ∷ MutSlice (named 0) κ R ∷ []) a at) ∷ []) ∵
       split ! $ move ! (2 ∷ []) $ fsplit ! $ drop ! $ fsplit ! $ drop ! $ fsplit ! $ drop ! $ fsplit ! $ keep ! (0 ∷ 2 ∷ []) $
       enter ! (𝓣 .C) (𝓣 .Λ) code.function (caseK .val c ∷ vint w8 e ∷ vint w8 pruning ∷ s ∷ []) _ $
-      alloc1 ! (λ l₀. alloc1 ! (λ l₁. alloc1 ! (λ l₂. alloc1 ! (λ l₃. alloc1 ! (λ l₄. alloc1 ! (λ l₅. alloc1 ! (λ l₆. alloc1 ! (λ l₇. alloc1 ! (λ l₈. alloc1 ! (λ l₉. alloc0 ! $ params1 ! $
-      pass1 ! (init ! 16 refl (typed caseK 𝓤 H A W c _ c-ok .0)) $ pass1 ! (init ! 14 refl (tt, record { fits = e-fits })) $ pass1 ! (init ! 12 refl (tt, record { fits = p-fits })) $ pass1 ! (init ! 10 refl (tt, (tt, (record { fits = room .0 }, tt)))) $ pass0 ! $
-      move ! (20 ∷ 21 ∷ []) $
-      -- [what list owns; the token; _9 at 2; _8 at 4; _7 at 6; _6 at 8; _5 at 10; _4 at 12; _3 at 14; _2 at 16; _1 at 18; _0 at 20]
+      alloc1 ! (λ l₀. alloc1 ! (λ l₁. alloc1 ! (λ l₂. alloc1 ! (λ l₃. alloc1 ! (λ l₄. alloc1 ! (λ l₅. alloc1 ! (λ l₆. alloc1 ! (λ l₇. alloc1 ! (λ l₈. alloc1 ! (λ l₉. alloc1 ! (λ l₁₀. alloc1 ! (λ l₁₁. alloc1 ! (λ l₁₂. alloc1 ! (λ l₁₃. alloc0 ! $ params1 ! $
+      pass1 ! (init ! 24 refl (typed caseK 𝓤 H A W c _ c-ok .0)) $ pass1 ! (init ! 22 refl (tt, record { fits = e-fits })) $ pass1 ! (init ! 20 refl (tt, record { fits = p-fits })) $ pass1 ! (init ! 18 refl (tt, (tt, (record { fits = room .0 }, tt)))) $ pass0 ! $
+      move ! (28 ∷ 29 ∷ []) $
+      -- [what list owns; the token; _13 at 2; _12 at 4; _11 at 6; _10 at 8; _9 at 10; _8 at 12; _7 at 14; _6 at 16; _5 at 18; _4 at 20; _3 at 22; _2 at 24; _1 at 26; _0 at 28]
       -- p = prepare(self, encoding, pruning, list.len())
-      assigns ! (of-opd ! (load ! (from ! (fld ! refl (stop !))) (look-in ! 12 (sub ! 1 refl (whole !))))) (from ! (stop !)) (init ! 6 refl (tt, record { fits = room .0 })) $
-      calls-by-value ! (fmOf 𝓤 H (W .laws) 𝓣) (Result (preparedK .row) (PreparedFor c e pruning (length ys))) (prepare-says 𝓤 H A mem run W (𝓣 .C) (fmOf 𝓤 H (W .laws) 𝓣) (known .prepare) c e pruning (length ys) c-ok e-fits p-fits (room .0))
-      (and-then ! (load ! (from ! (stop !)) (look ! 18 refl)) (and-then ! (load ! (from ! (stop !)) (look ! 16 refl)) (and-then ! (load ! (from ! (stop !)) (look ! 14 refl)) (and-then ! (load ! (from ! (stop !)) (look ! 6 refl)) (no-more !))))) (λ u gave.
-      let p : Prepared = gave .0 in let ok = of-prepared p u (gave .1 .1) .0 in let found : PreparedFor c e pruning (length ys) p = gave .1 .0 in
-      land ! (from ! (stop !)) (init ! 10 refl (typed preparedK 𝓤 H A W p u (gave .1 .1) .0)) $ rewrite ! 10 (λ (w : Val). ‵ (fat fullShare P′.mir l₅ 0 w)) (val-is preparedK p u (gave .1 .1)) refl $
-      -- w = write(p.words, p.rows, p.count, p.pruning, list)
-      assigns ! (addr ! (from ! (fld ! refl (hop ! (look-in ! 12 (sub ! 0 refl (whole !))) (stop !))))) (from ! (stop !)) (init ! 4 refl (tt, tt)) $
-      assigns ! (agg ! (and-then ! (load ! (from ! (stop !)) (look ! 4 refl)) (and-then ! (load ! (from ! (fld ! refl (stop !))) (look-in ! 12 (sub ! 1 refl (whole !)))) (no-more !)))) (from ! (stop !)) (init ! 2 refl (tt, (tt, (record { fits = room .0 }, tt)))) $
-      calls-lending ! (fmOf 𝓤 H (W .laws) 𝓣) R (named 0) (named 0) κ q γ b o (length ys) ys refl room (Answer (prunedK .row) (Writes (p .words) (p .rows) (p .count) (p .pruning) ys))
-      (write-left 𝓤 H A mem run W (𝓣 .C) (fmOf 𝓤 H (W .laws) 𝓣) (known .write) b o (length ys) ys refl (p .words) (p .rows) (p .count) (p .pruning) (ok .words-ok) (ok .rows-ok) (ok .count-fits) (of-prepared p u (gave .1 .1) .1) (found .ready))
-      (λ i j. and-then ! (load ! (from ! (fld ! refl (stop !))) (look-in ! 10 (sub ! 1 refl (whole !)))) (and-then ! (load ! (from ! (fld ! refl (stop !))) (look-in ! 10 (sub ! 2 refl (whole !)))) (and-then ! (load ! (from ! (fld ! refl (stop !))) (look-in ! 10 (sub ! 3 refl (whole !)))) (and-then ! (load ! (from ! (fld ! refl (stop !))) (look-in ! 10 (sub ! 4 refl (whole !)))) (and-then ! (load ! (from ! (stop !)) (look ! 2 refl)) (no-more !)))))) (λ u₁ zs gave₁ len.
-      let r : Pruned = gave₁ .0 in let r-parts = of-pruned r u₁ (gave₁ .1 .1) in
-      land ! (from ! (stop !)) (init ! 8 refl (typed prunedK 𝓤 H A W r u₁ (gave₁ .1 .1) .0)) $ rewrite ! 8 (λ (w : Val). ‵ (fat fullShare L′.mir l₆ 0 w)) (val-is prunedK r u₁ (gave₁ .1 .1)) refl $
-      -- answered(self, p.number, p.words, p.rows, w.left)
-      calls-by-value ! (fmOf 𝓤 H (W .laws) 𝓣) (Result (decisionK .row) (λ x. x ≡ answering c (p .number) (r .left)))
-      (answered-says 𝓤 H A mem run W (𝓣 .C) (fmOf 𝓤 H (W .laws) 𝓣) (known .answered) c (p .number) (p .words) (p .rows) (r .left) c-ok (ok .number-fits) (ok .words-ok) (ok .rows-ok) (r-parts .1) (asked c e pruning (length ys) p found))
-      (and-then ! (load ! (from ! (stop !)) (look ! 18 refl)) (and-then ! (load ! (from ! (fld ! refl (stop !))) (look-in ! 10 (sub ! 0 refl (whole !)))) (and-then ! (load ! (from ! (fld ! refl (stop !))) (look-in ! 10 (sub ! 1 refl (whole !)))) (and-then ! (load ! (from ! (fld ! refl (stop !))) (look-in ! 10 (sub ! 2 refl (whole !)))) (and-then ! (load ! (from ! (fld ! refl (stop !))) (look-in ! 8 (sub ! 1 refl (whole !)))) (no-more !)))))) (λ u₂ gave₂.
-      let x : Decision = gave₂ .0 in let x-ok : Good decisionK x = good decisionK x u₂ (gave₂ .1 .1) in
-      land ! (from ! (stop !)) (init ! 20 refl (typed decisionK 𝓤 H A W x u₂ (gave₂ .1 .1) .0)) $ rewrite ! 20 (λ (w : Val). ‵ (fat fullShare D′.mir l₀ 0 w)) (val-is decisionK x u₂ (gave₂ .1 .1)) refl $
-      returns ! (look ! 20 refl) $ forget ! 2 refl $ forget ! 4 refl $ forget ! 6 refl $ forget ! 8 refl $ forget ! 10 refl $ forget ! 12 refl $ forget ! 14 refl $ forget ! 16 refl $ forget ! 18 refl $ forget ! 20 refl $
-      move ! (20 ∷ 21 ∷ []) $ free1 ! $ move ! (18 ∷ 19 ∷ []) $ free1 ! $ move ! (16 ∷ 17 ∷ []) $ free1 ! $ move ! (14 ∷ 15 ∷ []) $ free1 ! $ move ! (12 ∷ 13 ∷ []) $ free1 ! $ move ! (10 ∷ 11 ∷ []) $ free1 ! $ move ! (8 ∷ 9 ∷ []) $ free1 ! $ move ! (6 ∷ 7 ∷ []) $ free1 ! $ move ! (4 ∷ 5 ∷ []) $ free1 ! $ move ! (2 ∷ 3 ∷ []) $ free1 ! $ free0 ! $
-      by ! (exits x zs x-ok len (decides c e pruning ys zs p r found (gave₁ .1 .0) x (gave₂ .1 .0))))))))))))))))
+      assigns ! (of-opd ! (load ! (from ! (fld ! refl (stop !))) (look-in ! 20 (sub ! 1 refl (whole !))))) (from ! (stop !)) (init ! 12 refl (tt, record { fits = room .0 })) $
+      calls-by-value ! (fmOf 𝓤 H (W .laws) 𝓣) (Result (preparedK .row) (FoundFor c e pruning (length ys))) (prepare-says 𝓤 H A mem run W (𝓣 .C) (fmOf 𝓤 H (W .laws) 𝓣) (known .prepare) c e pruning (length ys) c-ok e-fits p-fits (room .0))
+      (and-then ! (load ! (from ! (stop !)) (look ! 26 refl)) (and-then ! (load ! (from ! (stop !)) (look ! 24 refl)) (and-then ! (load ! (from ! (stop !)) (look ! 22 refl)) (and-then ! (load ! (from ! (stop !)) (look ! 12 refl)) (no-more !))))) (λ u gave.
+      let p : Prepared = gave .0 in let ok = of-prepared p u (gave .1 .1) in let found : FoundFor c e pruning (length ys) p = gave .1 .0 in
+      land ! (from ! (stop !)) (init ! 18 refl (typed preparedK 𝓤 H A W p u (gave .1 .1) .0)) $ rewrite ! 18 (λ (w : Val). ‵ (fat fullShare P′.mir l₅ 0 w)) (val-is preparedK p u (gave .1 .1)) refl $
+      -- tables = p.tables; chosen = p.chosen
+      assigns ! (of-opd ! (load ! (from ! (fld ! refl (stop !))) (look-in ! 18 (sub ! 5 refl (whole !))))) (from ! (stop !)) (init ! 16 refl (typed tablesK 𝓤 H A W (p .tables) _ (ok .tables-ok) .0)) $
+      assigns ! (of-opd ! (load ! (from ! (fld ! refl (stop !))) (look-in ! 18 (sub ! 6 refl (whole !))))) (from ! (stop !)) (init ! 14 refl (typed placesK 𝓤 H A W (p .chosen) _ (ok .chosen-ok) .0)) $
+      -- write_left(&tables, &chosen, p.left, p.count, list)
+      assigns ! (addr ! (from ! (stop !))) (from ! (stop !)) (init ! 8 refl (tt, tt)) $
+      assigns ! (addr ! (from ! (stop !))) (from ! (stop !)) (init ! 6 refl (tt, tt)) $
+      assigns ! (addr ! (from ! (fld ! refl (hop ! (look-in ! 20 (sub ! 0 refl (whole !))) (stop !))))) (from ! (stop !)) (init ! 4 refl (tt, tt)) $
+      assigns ! (agg ! (and-then ! (load ! (from ! (stop !)) (look ! 4 refl)) (and-then ! (load ! (from ! (fld ! refl (stop !))) (look-in ! 20 (sub ! 1 refl (whole !)))) (no-more !)))) (from ! (stop !)) (init ! 2 refl (tt, (tt, (record { fits = room .0 }, tt)))) $
+      -- the tables and the numbers are lent together, so that [the list; its token; the two; their token; the lender's parts] stand in front, and come back: then they stand third and fourth
+      move ! (16 ∷ 14 ∷ []) $ lends-two ! tt tablesK placesK tt tt (named 0) (p .tables) (p .chosen) l₆ l₇ (ok .tables-ok) (ok .chosen-ok) (λ ν δ δ′. move ! (4 ∷ 5 ∷ []) $
+      calls-both ! (fmOf 𝓤 H (W .laws) 𝓣) R (named 0) (named 1) κ q γ b o (length ys) ys refl room (Lent₂ (named 0) (ν ∷ []) (shared l₆ δ (p .tables)) (shared l₇ δ′ (p .chosen)))
+      (lent-twice 𝓤 H A W (named 0) (ν ∷ []) (shared l₆ δ (p .tables)) (shared l₇ δ′ (p .chosen))) (ν ∷ []) fullShare (Answer unit (λ _. Wrote (p .tables) (p .chosen) (p .left) (p .count) ys))
+      (left-both 𝓤 H A mem run W (𝓣 .C) (fmOf 𝓤 H (W .laws) 𝓣) (known .left) b o (length ys) ys refl (ν ∷ []) fullShare (shared l₆ δ (p .tables)) (shared l₇ δ′ (p .chosen)) (p .left) (p .count) (ok .left-fits) (ok .count-fits) (found .within, found .few, found .fits))
+      (λ i j x y. and-then ! (load ! (from ! (stop !)) (look ! 12 refl)) (and-then ! (load ! (from ! (stop !)) (look ! 10 refl)) (and-then ! (load ! (from ! (fld ! refl (stop !))) (look-in ! 20 (sub ! 4 refl (whole !)))) (and-then ! (load ! (from ! (fld ! refl (stop !))) (look-in ! 20 (sub ! 3 refl (whole !)))) (and-then ! (load ! (from ! (stop !)) (look ! 6 refl)) (no-more !)))))) (λ u₁ zs gave₁ len.
+      land ! (from ! (stop !)) (init ! 14 refl (nothing-lawful 𝓤 H A W .typed (gave₁ .0) (u₁ ∷ []) (gave₁ .1 .1) .0)) $ move ! (3 ∷ 4 ∷ 5 ∷ []) $ two-back ! tt tablesK placesK tt tt (p .tables) (p .chosen) l₆ l₇ ν $ move ! (4 ∷ []) $ drop ! $ move ! (2 ∷ 3 ∷ []) $
+      -- self = stored(self, p.number, p.found, p.order)
+      calls-by-value ! (fmOf 𝓤 H (W .laws) 𝓣) (Result (caseK .row) (λ k. k ≡ storing c (p .number) (p .found) (p .order)))
+      (stored-says 𝓤 H A mem run W (𝓣 .C) (fmOf 𝓤 H (W .laws) 𝓣) (known .stored) c (p .number) (p .found) (p .order) c-ok (ok .number-fits) (ok .found-ok) (ok .order-ok))
+      (and-then ! (load ! (from ! (stop !)) (look ! 26 refl)) (and-then ! (load ! (from ! (fld ! refl (stop !))) (look-in ! 18 (sub ! 0 refl (whole !)))) (and-then ! (load ! (from ! (fld ! refl (stop !))) (look-in ! 18 (sub ! 1 refl (whole !)))) (and-then ! (load ! (from ! (fld ! refl (stop !))) (look-in ! 18 (sub ! 2 refl (whole !)))) (no-more !))))) (λ u₂ gave₂.
+      let k : Case = gave₂ .0 in let k-ok : Good caseK k = good caseK k u₂ (gave₂ .1 .1) in
+      land ! (from ! (stop !)) (store ! 26 refl (typed caseK 𝓤 H A W k u₂ (gave₂ .1 .1) .0)) $ rewrite ! 26 (λ (w : Val). ‵ (fat fullShare C′.mir l₁ 0 w)) (val-is caseK k u₂ (gave₂ .1 .1)) refl $
+      -- answer(self, p.number, p.found, p.order, p.left)
+      calls-by-value ! (fmOf 𝓤 H (W .laws) 𝓣) (Result (decisionK .row) (λ x. x ≡ answering k (p .number) (p .found) (p .order) (p .left)))
+      (answer-says 𝓤 H A mem run W (𝓣 .C) (fmOf 𝓤 H (W .laws) 𝓣) (known .answer) k (p .number) (p .found) (p .order) (p .left) k-ok (ok .number-fits) (ok .found-ok) (ok .order-ok) (ok .left-fits))
+      (and-then ! (load ! (from ! (stop !)) (look ! 26 refl)) (and-then ! (load ! (from ! (fld ! refl (stop !))) (look-in ! 18 (sub ! 0 refl (whole !)))) (and-then ! (load ! (from ! (fld ! refl (stop !))) (look-in ! 18 (sub ! 1 refl (whole !)))) (and-then ! (load ! (from ! (fld ! refl (stop !))) (look-in ! 18 (sub ! 2 refl (whole !)))) (and-then ! (load ! (from ! (fld ! refl (stop !))) (look-in ! 18 (sub ! 4 refl (whole !)))) (no-more !)))))) (λ u₃ gave₃.
+      let x : Decision = gave₃ .0 in let x-ok : Good decisionK x = good decisionK x u₃ (gave₃ .1 .1) in
+      land ! (from ! (stop !)) (init ! 28 refl (typed decisionK 𝓤 H A W x u₃ (gave₃ .1 .1) .0)) $ rewrite ! 28 (λ (w : Val). ‵ (fat fullShare D′.mir l₀ 0 w)) (val-is decisionK x u₃ (gave₃ .1 .1)) refl $
+      returns ! (look ! 28 refl) $ forget ! 2 refl $ forget ! 3 refl $ forget ! 4 refl $ forget ! 6 refl $ forget ! 8 refl $ forget ! 10 refl $ forget ! 12 refl $ forget ! 14 refl $ forget ! 18 refl $ forget ! 20 refl $ forget ! 22 refl $ forget ! 24 refl $ forget ! 26 refl $ forget ! 28 refl $
+      move ! (28 ∷ 29 ∷ []) $ free1 ! $ move ! (26 ∷ 27 ∷ []) $ free1 ! $ move ! (24 ∷ 25 ∷ []) $ free1 ! $ move ! (22 ∷ 23 ∷ []) $ free1 ! $ move ! (20 ∷ 21 ∷ []) $ free1 ! $ move ! (18 ∷ 19 ∷ []) $ free1 ! $ move ! (2 ∷ 17 ∷ []) $ free1 ! $ move ! (2 ∷ 15 ∷ []) $ free1 ! $
+      move ! (12 ∷ 13 ∷ []) $ free1 ! $ move ! (10 ∷ 11 ∷ []) $ free1 ! $ move ! (8 ∷ 9 ∷ []) $ free1 ! $ move ! (6 ∷ 7 ∷ []) $ free1 ! $ move ! (4 ∷ 5 ∷ []) $ free1 ! $ move ! (2 ∷ 3 ∷ []) $ free1 ! $ free0 ! $
+      by ! (exits x zs x-ok len (decides c e pruning ys zs p found (gave₁ .1 .0) x (gave₃ .1 .0 ∙ ap (λ (j : Case). answering j (p .number) (p .found) (p .order) (p .left)) (gave₂ .1 .0)))))))))))))))))))))))
 
 module _ {M : Type 1} (𝓤 : URA M) (H : Heap 𝓤) (A : Atoms 𝓤) (W : Given 𝓤 H A) (mem : Memory → SProp 𝓤) (run : Routine → Fun 𝓤) (𝓣 : Tables 𝓤 H) (known : Known 𝓤 H A mem run (𝓣 .C)) where
   decide-walks : Walks 𝓤 H A f.ended stayed (WpFn 𝓤 H (𝓣 .C) (𝓣 .Λ) code.function) (f.clauses 𝓤 H A mem run)
@@ -123,6 +143,7 @@ decide-spec 𝓤 H 𝓜 𝓖 𝓡 =
     (tables 𝓤 H 𝓜 𝓡 code.env .C) (tables 𝓤 H 𝓜 𝓡 code.env .Λ) #checker·Case·decide code.function (code.unfolded 𝓤 H 𝓜 𝓡)
     (decide-meets 𝓤 H (𝓖 .A) (givenOf 𝓤 H 𝓜 𝓖) (𝓜 .mem) (𝓡 .run) (tablesOf 𝓤 H 𝓜 (tables 𝓤 H 𝓜 𝓡 code.env)) (record {
       prepare = cited 𝓤 H (PrepareC 𝓤 H (𝓖 .A) (𝓜 .mem) (𝓡 .run)) 𝓜 𝓡 code.env #checker·deciding·prepare prepare-def.routine code.calls-checker·deciding·prepare (prepare-thm.met 𝓤 H 𝓜 𝓖 𝓡);
-      write = cited 𝓤 H (WriteC 𝓤 H (𝓖 .A) (𝓜 .mem) (𝓡 .run)) 𝓜 𝓡 code.env #encoding·write write-def.routine code.calls-encoding·write (write-thm.met 𝓤 H 𝓜 𝓖 𝓡);
-      answered = cited 𝓤 H (AnsweredC 𝓤 H (𝓖 .A) (𝓜 .mem) (𝓡 .run)) 𝓜 𝓡 code.env #checker·deciding·answered answered-def.routine code.calls-checker·deciding·answered (answered-thm.met 𝓤 H 𝓜 𝓖 𝓡);
+      left = cited 𝓤 H (LeftC 𝓤 H (𝓖 .A) (𝓜 .mem) (𝓡 .run)) 𝓜 𝓡 code.env #encoding·write-left write-left-def.routine code.calls-encoding·write-left (write-left-thm.met 𝓤 H 𝓜 𝓖 𝓡);
+      stored = cited 𝓤 H (StoredC 𝓤 H (𝓖 .A) (𝓜 .mem) (𝓡 .run)) 𝓜 𝓡 code.env #checker·deciding·stored stored-def.routine code.calls-checker·deciding·stored (stored-thm.met 𝓤 H 𝓜 𝓖 𝓡);
+      answer = cited 𝓤 H (AnswerC 𝓤 H (𝓖 .A) (𝓜 .mem) (𝓡 .run)) 𝓜 𝓡 code.env #checker·deciding·answer answer-def.routine code.calls-checker·deciding·answer (answer-thm.met 𝓤 H 𝓜 𝓖 𝓡);
     }))

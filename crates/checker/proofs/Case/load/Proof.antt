@@ -1,6 +1,6 @@
 -- `checker::Case::load` meets its contract. Assumes nothing.
 use Rattle.checker.proofs.Loads.{refusal-none, load-refused, load-taken}
-use mathlib.Core.Path.{_≡_, sym, ap, _∙_}
+use mathlib.Core.Path.{sym, _∙_}
 use borrow.Author.Needs.{needs}
 use Rattle.checker.proofs.Case.load.Statement.{statement}
 use Rattle.checker.proofs.Case.load.Tie as tie

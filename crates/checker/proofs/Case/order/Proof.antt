@@ -1,6 +1,6 @@
 -- `checker::Case::order` meets its contract. Assumes nothing.
 use Rattle.checker.proofs.Writing.{replying-refused, replying-taken, order-as-was, order-left}
-use mathlib.Core.Path.{_≡_, sym, _∙_}
+use mathlib.Core.Path.{sym, _∙_}
 use borrow.Author.Needs.{needs}
 use Rattle.checker.proofs.Case.order.Statement.{statement}
 use Rattle.checker.proofs.Case.order.Tie as tie

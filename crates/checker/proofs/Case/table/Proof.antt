@@ -1,6 +1,6 @@
 -- `checker::Case::table` meets its contract. Assumes nothing.
 use Rattle.checker.proofs.Writing.{replying-refused, replying-taken, table-as-was, table-left}
-use mathlib.Core.Path.{_≡_, sym, _∙_}
+use mathlib.Core.Path.{sym, _∙_}
 use borrow.Author.Needs.{needs}
 use Rattle.checker.proofs.Case.table.Statement.{statement}
 use Rattle.checker.proofs.Case.table.Tie as tie

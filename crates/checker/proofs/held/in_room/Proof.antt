@@ -1,6 +1,5 @@
 -- `checker::held::in_room` meets its contract. Assumes nothing.
 use Rattle.checker.proofs.Holding.{in-room}
-use mathlib.Core.Path.{_≡_}
 use borrow.Author.Needs.{needs}
 use Rattle.checker.proofs.held.in_room.Statement.{statement}
 use Rattle.checker.proofs.held.in_room.Tie as tie

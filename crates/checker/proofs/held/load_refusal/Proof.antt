@@ -1,6 +1,6 @@
 -- `checker::held::load_refusal` meets its contract. Assumes nothing.
 use Rattle.checker.proofs.Loads.{refusal-fresh, refusal-other}
-use mathlib.Core.Path.{_≡_, sym, ap, _∙_}
+use mathlib.Core.Path.{sym, _∙_}
 use borrow.Author.Needs.{needs}
 use Rattle.checker.proofs.held.load_refusal.Statement.{statement}
 use Rattle.checker.proofs.held.load_refusal.Tie as tie

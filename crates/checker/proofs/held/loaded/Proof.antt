@@ -1,6 +1,5 @@
 -- `checker::held::loaded` meets its contract. Assumes nothing.
 use Rattle.checker.proofs.Holding.{log-room, loaded-is}
-use mathlib.Core.Path.{_≡_, ap}
 use Rattle.checker.proofs.held.loaded.Statement.{statement}
 use Rattle.checker.proofs.held.loaded.Tie as tie
 

@@ -1,8 +1,9 @@
 -- `checker::judging::judged` meets its contract. Assumes nothing.
 use Rattle.checker.proofs.Checks.{check-fresh, check-loaded}
-use Rattle.checker.proofs.Holding.{case-holds, case-loads, log-fits}
+use Rattle.checker.proofs.Holding.{case-holds, case-loads}
+use Rattle.answers.proofs.Holding.{log-fits}
 use lib.Seq.{length-take-le}
-use mathlib.Core.Path.{_≡_, sym, _∙_}
+use mathlib.Core.Path.{sym, _∙_}
 use borrow.Author.Needs.{needs}
 use Rattle.checker.proofs.judging.judged.Statement.{statement}
 use Rattle.checker.proofs.judging.judged.Tie as tie
@@ -17,17 +18,17 @@ array-share-prefix-bytes : tie.Need-array-share-prefix-bytes
 array-share-prefix-bytes c =
     log-fits _ _ (case-holds (c .before .before .before .before .args .c) (sym (c .before .before .is-fresh .ensures) ∙ c .before .if1 .left))
 
-slice-aggregate-judged-by : tie.Need-slice-aggregate-judged-by
-slice-aggregate-judged-by c =
+slice-aggregate-judged : tie.Need-slice-aggregate-judged
+slice-aggregate-judged c =
     sym (length-take-le _ _ (log-fits _ _ (case-holds (c .before .before .before .before .before .args .c) (sym (c .before .before .before .is-fresh .ensures) ∙ c .before .before .if1 .left))))
 
-judged-by-requires : tie.Need-judged-by-requires
-judged-by-requires c κs =
+judged-requires : tie.Need-judged-requires
+judged-requires c κs =
     case-loads (c .before .before .before .before .before .args .c) (sym (c .before .before .before .is-fresh .ensures) ∙ c .before .before .if1 .left)
 
 returns-2 : tie.Need-returns-2
 returns-2 c =
-    c .judged-by .ensures ∙ check-loaded (c .before .before .before .before .before .before .args .c) _ (sym (c .before .before .before .before .is-fresh .ensures) ∙ c .before .before .before .if1 .left)
+    c .judged .ensures ∙ check-loaded (c .before .before .before .before .before .before .args .c) _ (sym (c .before .before .before .before .is-fresh .ensures) ∙ c .before .before .before .if1 .left)
 
 pub judged-spec : {M : Type 1} → statement M
 judged-spec =
@@ -36,6 +37,6 @@ judged-spec =
     is-fresh-requires
     returns
     array-share-prefix-bytes
-    slice-aggregate-judged-by
-    judged-by-requires
+    slice-aggregate-judged
+    judged-requires
     returns-2)

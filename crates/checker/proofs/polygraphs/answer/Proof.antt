@@ -1,6 +1,6 @@
 -- `checker::polygraphs::answer` meets its contract. Assumes nothing.
 use borrow.Author.Tests.{eq-eqb, ne-eqb}
-use Rattle.checker.specs.Answers.{replyOf}
+use Rattle.answers.specs.Numbers.{replyOf}
 use Rattle.checker.proofs.polygraphs.answer.Statement.{statement}
 use Rattle.checker.proofs.polygraphs.answer.Tie as tie
 

@@ -1,8 +1,10 @@
 -- `checker::polygraphs::planned` meets its contract. Assumes nothing.
-use mathlib.Core.Path.{_≡_, sym, _∙_}
+use mathlib.Core.Path.{refl, sym, _∙_}
 use lib.Seq.{length-take-le}
-use Rattle.checker.proofs.Holding.{case-holds, case-loads, log-fits}
-use Rattle.checker.proofs.Encodes.{setting-zero, plans-fresh, plans-setting, plans-counted}
+use Rattle.checker.proofs.Holding.{case-holds, case-loads}
+use Rattle.answers.proofs.Holding.{log-fits}
+use Rattle.checker.proofs.Encodes.{plans-fresh, plans-setting, plans-counted}
+use Rattle.answers.proofs.Answering.{setting-zero}
 use borrow.Author.Needs.{needs}
 use Rattle.checker.proofs.polygraphs.planned.Statement.{statement}
 use Rattle.checker.proofs.polygraphs.planned.Tie as tie
@@ -40,8 +42,9 @@ slice-aggregate-prepare c =
 
 prepare-requires : tie.Need-prepare-requires
 prepare-requires c κs = (
-  case-loads (c .before .before .before .before .before .before .args .c) (sym (c .before .before .before .before .before .is-fresh .ensures) ∙ c .before .before .before .before .if1 .left),
-  setting-zero (c .before .before .before .before .before .before .args .encoding) (c .before .before .before .before .before .before .args .pruning) (sym (c .before .before .before .setting-refusal .ensures) ∙ c .before .before .if2 .left),
+  case-loads (c .before .before .before .before .before .before .before .before .args .c) (sym (c .before .before .before .before .before .before .before .is-fresh .ensures) ∙ c .before .before .before .before .before .before .if1 .left),
+  setting-zero (c .before .before .before .before .before .before .before .before .args .encoding) (c .before .before .before .before .before .before .before .before .args .pruning) (sym (c .before .before .before .before .before .setting-refusal .ensures) ∙ c .before .before .before .before .if2 .left),
+  record { words = refl; places = refl },
 )
 
 places-refusal-requires : tie.Need-places-refusal-requires
@@ -49,8 +52,8 @@ places-refusal-requires c κs = search needs
 
 returns-3 : tie.Need-returns-3
 returns-3 c =
-    let a = c .before .before .before .before .before .before .before .before .before .before .args in
-    plans-counted (a .c) (a .encoding) (a .pruning) (a .places) (a .words) _ (sym (c .before .before .before .before .before .before .before .before .before .is-fresh .ensures) ∙ c .before .before .before .before .before .before .before .before .if1 .left) (sym (c .before .before .before .before .before .before .before .setting-refusal .ensures) ∙ c .before .before .before .before .before .before .if2 .left) (c .before .before .before .prepare .ensures) (c .places-refusal .ensures)
+    let a = c .before .before .before .before .before .before .before .before .before .before .before .args in
+    plans-counted (a .c) (a .encoding) (a .pruning) (a .places) (a .words) _ (sym (c .before .before .before .before .before .before .before .before .before .before .is-fresh .ensures) ∙ c .before .before .before .before .before .before .before .before .before .if1 .left) (sym (c .before .before .before .before .before .before .before .before .setting-refusal .ensures) ∙ c .before .before .before .before .before .before .before .if2 .left) (c .before .before .prepare .ensures) (c .places-refusal .ensures)
 
 pub planned-spec : {M : Type 1} → statement M
 planned-spec =

@@ -1,6 +1,5 @@
 -- `checker::results::table_refused` meets its contract. Assumes nothing.
 use Rattle.checker.proofs.Writing.{table-number}
-use mathlib.Core.Path.{_≡_}
 use borrow.Author.Needs.{needs}
 use Rattle.checker.proofs.results.table_refused.Statement.{statement}
 use Rattle.checker.proofs.results.table_refused.Tie as tie

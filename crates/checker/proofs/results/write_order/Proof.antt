@@ -1,6 +1,6 @@
 -- `checker::results::write_order` meets its contract. Assumes nothing.
 use Rattle.checker.proofs.Writing.{order-stage, order-room, ordered-holds, order-written}
-use Rattle.checker.proofs.Holding.{log-fits, log-loads}
+use Rattle.answers.proofs.Holding.{log-fits, log-loads}
 use lib.Seq.{length-take-le}
 use lib.ListN.{length}
 use mathlib.Core.Path.{_≡_, sym}

@@ -8,7 +8,7 @@ use native.Mathlib.Omega.{arith}
 use borrow.Author.Needs.{needs}
 use Rattle.host.proofs.images.put_constraints.Statement.{statement}
 use Rattle.host.proofs.images.put_constraints.Tie as tie
-use Rattle.host.proofs.images.constraint_at.Reads as constraint-at-reads
+use Rattle.search.proofs.constraint_at.Reads as constraint-at-reads
 use Rattle.host.proofs.images.put_constraint.Reads as put-constraint-reads
 
 abbrev Inv-loop : tie.InvT-loop

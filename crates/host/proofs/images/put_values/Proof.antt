@@ -1,9 +1,8 @@
 -- `host::images::put_values` meets its contract. Assumes nothing.
 use Rattle.host.proofs.Filling.{filled-none, filled-next, values-long}
-use Rattle.host.specs.Images.{pairBytes, filled, valueIn}
-use Prim.Native.Nat.{ℕ, _*_, _≤_, _-_}
-use mathlib.Core.List.{List}
-use lib.ListN.{length, getD}
+use Rattle.host.specs.Images.{filled, valueIn}
+use Prim.Native.Nat.{ℕ, _≤_, _-_}
+use lib.ListN.{length}
 use mathlib.Core.Path.{_≡_, ap, _∙_}
 use native.Mathlib.Omega.{arith}
 use borrow.Author.Needs.{needs}

@@ -1,20 +1,25 @@
 -- `listing::plain::rows` meets its contract. Assumes nothing.
 use native.Mathlib.Omega.{arith}
-use mathlib.Core.Path.{_≡_, refl, ap, ap₂, sym, subst, _∙_}
-use lib.ListN.{length, getD}
-use Prim.Native.Nat.{ℕ, _≤_, _<_, _-_, _+_, _%_}
-use Rattle.model.specs.Log.{countAt, startAt, operationAt}
-use Rattle.listing.specs.Plain.{PlainTable, plainMask}
-use Rattle.listing.proofs.PlainFill.{plain-next, plain-begin, three}
+use mathlib.Core.Path.{_≡_, ap, ap₂, sym, subst, _∙_}
+use lib.ListN.{getD, set}
+use Prim.Native.Nat.{ℕ, _≤_, _-_, _+_, _*_, _%_}
 use borrow.Author.Needs.{needs}
+use Rattle.model.specs.Log.{countAt, startAt, operationAt}
+use Rattle.graph.specs.Members.{members}
+use Rattle.listing.specs.Choosing.{Chose, inRow}
+use Rattle.listing.specs.Plain.{PlainTable, plainMask, plainNumbersOf}
+use Rattle.listing.proofs.PlainFill.{plain-next, plain-begin, numbers-none, numbers-next}
+use Rattle.listing.proofs.Choosing.{row-few}
 use Rattle.listing.proofs.plain.rows.Statement.{statement}
 use Rattle.listing.proofs.plain.rows.Tie as tie
 
 abbrev Inv-loop : tie.InvT-loop
-Inv-loop log t out₀ writers first count m₀ out m = (m ≤ count) × (first ≡ startAt log t) × (count ≡ countAt log t) × (first + count ≤ 256) × PlainTable log writers (startAt log t + m) out
+Inv-loop log t writers from out₀ chosen₀ first count n₀ m₀ out chosen n m =
+    (m ≤ count) × (first ≡ startAt log t) × (count ≡ countAt log t) × (first + count ≤ 256) × (n ≤ 32 * (first + m)) × PlainTable log (startAt log t + m) out
+    × Chose (plainNumbersOf log writers t m) from chosen₀ n chosen
 
 abbrev μ-loop : tie.MeasureT-loop
-μ-loop log t out₀ writers first count m₀ out m = count - m
+μ-loop log t writers from out₀ chosen₀ first count n₀ m₀ out chosen n m = count - m
 
 start-requires : tie.Need-start-requires Inv-loop μ-loop
 start-requires c κs = search needs
@@ -23,25 +28,19 @@ count-requires : tie.Need-count-requires Inv-loop μ-loop
 count-requires c κs = search needs
 
 loop-holds : tie.Need-loop-holds Inv-loop μ-loop
-loop-holds c = (
-  omega arith,
-  c .before .start .ensures .0,
-  c .count .ensures .0,
-  omega arith,
-  plain-begin _ (c .before .before .before .pre .0 .loads) _ _ _ (c .before .before .before .pre .2),
-)
+loop-holds c =
+    let s = c .before .before .before in (
+      omega arith,
+      c .before .start .ensures .0,
+      c .count .ensures .0,
+      omega arith,
+      omega (arith, c .before .start .ensures .0, s .pre .2),
+      plain-begin _ (s .pre .0 .loads) _ _ (s .pre .3),
+      numbers-none (s .args .log .now) (s .args .writers .now) _ _ _,
+    )
 
 operation-requires : tie.Need-operation-requires Inv-loop μ-loop
 operation-requires c κs = (c .before .before .before .before .before .pre .0, omega arith)
-
-mul-mask : tie.Need-mul-mask Inv-loop μ-loop
-mul-mask c = search needs
-
-array-read-mask : tie.Need-array-read-mask Inv-loop μ-loop
-array-read-mask c = search needs
-
-mask-requires : tie.Need-mask-requires Inv-loop μ-loop
-mask-requires c κs = search needs
 
 add-i : tie.Need-add-i Inv-loop μ-loop
 add-i c = search needs
@@ -49,32 +48,29 @@ add-i c = search needs
 mul-out : tie.Need-mul-out Inv-loop μ-loop
 mul-out c = search needs
 
-element-write-out : tie.Need-element-write-out Inv-loop μ-loop
-element-write-out c = search needs
+add-out : tie.Need-add-out Inv-loop μ-loop
+add-out c = search needs
 
 cast-out : tie.Need-cast-out Inv-loop μ-loop
 cast-out c = search needs
 
-add-out : tie.Need-add-out Inv-loop μ-loop
-add-out c = search needs
-
 mul-out-2 : tie.Need-mul-out-2 Inv-loop μ-loop
 mul-out-2 c = search needs
 
-element-write-out-2 : tie.Need-element-write-out-2 Inv-loop μ-loop
-element-write-out-2 c = search needs
+element-write-out : tie.Need-element-write-out Inv-loop μ-loop
+element-write-out c = search needs
 
-cast-out-2 : tie.Need-cast-out-2 Inv-loop μ-loop
-cast-out-2 c = search needs
+mul-mask : tie.Need-mul-mask Inv-loop μ-loop
+mul-mask c = search needs
 
-add-out-2 : tie.Need-add-out-2 Inv-loop μ-loop
-add-out-2 c = search needs
+element-copy-out-mask : tie.Need-element-copy-out-mask Inv-loop μ-loop
+element-copy-out-mask c = search needs
 
-mul-out-3 : tie.Need-mul-out-3 Inv-loop μ-loop
-mul-out-3 c = search needs
+mask-requires : tie.Need-mask-requires Inv-loop μ-loop
+mask-requires c κs = search needs
 
-element-write-out-3 : tie.Need-element-write-out-3 Inv-loop μ-loop
-element-write-out-3 c = search needs
+choose-requires : tie.Need-choose-requires Inv-loop μ-loop
+choose-requires c κs = (omega arith, omega (arith, c .before .before .before .before .before .before .loop .inv .4))
 
 add-m : tie.Need-add-m Inv-loop μ-loop
 add-m c = search needs
@@ -84,28 +80,34 @@ loop-less c = search needs
 
 loop-again : tie.Need-loop-again Inv-loop μ-loop
 loop-again c =
-    let l = c .before .before .before .before .loop in
-    let a = c .before .before .before .before .before .before .before .before .args in
-    let o = c .before .before .operation .ensures in
-    let v = c .before .before .operation .result in
-    let first = l .inv .1 in (
+    let l = c .before .before .before .before .before .before .before .loop in
+    let s = c .before .before .before .before .before .before .before .before .before .before .before in
+    let a = s .args in
+    let o = c .before .before .before .before .before .operation .ensures in
+    let v = c .before .before .before .before .before .operation .result in
+    let first = l .inv .1 in
+    let row = c .before .before .before .before .before .before .before .before .before .start .result + l .m in (
       omega arith,
       first,
       l .inv .2,
       l .inv .3,
-      subst (λ (k : ℕ). PlainTable (a .log .now) (a .t3) (startAt (a .log .now) (a .t) + (l .m + 1)) (three (l .out) (k + l .m) (c .before .mask .result) (a .t) (v .argument % 32))) (sym first)
-          (plain-next (a .log .now) (c .before .before .before .before .before .before .before .before .pre .0 .loads) (a .t3) (l .out) (a .t) (l .m) _ _ _ (c .before .before .before .before .before .before .before .before .pre .0 .below) (omega arith) (l .inv .4)
-          (c .before .mask .ensures ∙ ap (λ (k : ℕ). plainMask (getD (a .t3) k 0) (a .t) (v .kind) (v .argument)) (o .key-is)
-          ∙ ap₂ (λ (x y : ℕ). plainMask (getD (a .t3) (operationAt (a .log .now) (startAt (a .log .now) (a .t) + l .m) .key) 0) (a .t) x y) (o .kind-is) (o .argument-is))
-          refl (ap (λ (x : ℕ). x % 32) (o .argument-is))),
+      omega (arith, l .inv .4, c .choose .ensures .count, row-few row (c .before .before .mask .result)),
+      subst (λ (k : ℕ). PlainTable (a .log .now) (startAt (a .log .now) (a .t) + (l .m + 1)) (set (l .out) (k + l .m) (a .t + 32 * (v .argument % 32)))) (sym first)
+          (plain-next (a .log .now) (s .pre .0 .loads) (l .out) (a .t) (l .m) _ (s .pre .0 .below) (omega arith) (l .inv .5) (ap (λ (x : ℕ). a .t + 32 * (x % 32)) (o .argument-is))),
+      numbers-next (a .log .now) (a .writers .now) (a .t) (l .m) _ _ _ _ _ _ _ (l .inv .6)
+          (c .before .before .mask .ensures ∙ ap (λ (k : ℕ). plainMask (getD (a .writers .now) k 0) (a .t) (v .kind) (v .argument)) (o .key-is)
+          ∙ ap₂ (λ (x y : ℕ). plainMask (getD (a .writers .now) (operationAt (a .log .now) (startAt (a .log .now) (a .t) + l .m) .key) 0) (a .t) x y) (o .kind-is) (o .argument-is))
+          (subst (λ (k : ℕ). Chose (inRow (k + l .m) (members (c .before .before .mask .result))) (l .n) (l .chosen) (c .choose .result) (c .choose .last .1 .1 .1 .0)) first (c .choose .ensures)),
     )
 
 returns : tie.Need-returns Inv-loop μ-loop
 returns c =
     let l = c .before .loop in
     let a = c .before .before .before .before .before .args in
-    let end : l .m ≡ countAt (a .log .now) (a .t) = omega arith in
-    subst (λ (k : ℕ). PlainTable (a .log .now) (a .t3) (startAt (a .log .now) (a .t) + k) (l .out)) end (l .inv .4)
+    let end : l .m ≡ countAt (a .log .now) (a .t) = omega arith in (
+      subst (λ (k : ℕ). PlainTable (a .log .now) (startAt (a .log .now) (a .t) + k) (l .out)) end (l .inv .5),
+      subst (λ (k : ℕ). Chose (plainNumbersOf (a .log .now) (a .writers .now) (a .t) k) (a .from) (a .chosen .now) (l .n) (l .chosen)) end (l .inv .6),
+    )
 
 pub rows-spec : {M : Type 1} → statement M
 rows-spec =
@@ -117,20 +119,16 @@ rows-spec =
     count-requires
     loop-holds
     operation-requires
-    mul-mask
-    array-read-mask
-    mask-requires
     add-i
     mul-out
-    element-write-out
-    cast-out
     add-out
+    cast-out
     mul-out-2
-    element-write-out-2
-    cast-out-2
-    add-out-2
-    mul-out-3
-    element-write-out-3
+    element-write-out
+    mul-mask
+    element-copy-out-mask
+    mask-requires
+    choose-requires
     add-m
     loop-less
     loop-again

@@ -1,35 +1,22 @@
 -- `listing::runs::table` meets its contract. Assumes nothing.
 use native.Mathlib.Omega.{arith}
-use mathlib.Core.Path.{_≡_, refl, ap, _∙_}
-use mathlib.Core.List.{List, map}
-use Prim.Native.Nat.{ℕ, _≤_, _-_}
-use Rattle.model.specs.Lists.{upTo}
-use Rattle.listing.specs.Runs.{tableWord, tableBy}
-use Rattle.listing.proofs.RunFill.{KeysIn, keys-none, keys-next, keys-all}
+use Prim.Native.Nat.{_≤_, _-_}
 use borrow.Author.Needs.{needs}
+use Rattle.listing.proofs.Keys.{Keys, keys-none, keys-next, keys-all}
 use Rattle.listing.proofs.runs.table.Statement.{statement}
 use Rattle.listing.proofs.runs.table.Tie as tie
 
 abbrev Inv-loop : tie.InvT-loop
-Inv-loop encoding n marks nexts heads out₀ k₀ out k = (k ≤ 32) × KeysIn encoding n heads nexts k out
+Inv-loop encoding n writers marks out₀ chosen₀ count₀ k₀ out chosen count k = (k ≤ 32) × Keys encoding writers marks n out₀ chosen₀ k out count chosen
 
 abbrev μ-loop : tie.MeasureT-loop
-μ-loop encoding n marks nexts heads out₀ k₀ out k = 32 - k
-
-firsts-requires : tie.Need-firsts-requires Inv-loop μ-loop
-firsts-requires c κs = search needs
+μ-loop encoding n writers marks out₀ chosen₀ count₀ k₀ out chosen count k = 32 - k
 
 loop-holds : tie.Need-loop-holds Inv-loop μ-loop
-loop-holds c = (search needs, keys-none _ _ _ _ _ refl)
+loop-holds c = (omega arith, keys-none (c .args .encoding) (c .args .writers .now) (c .args .marks .now) (c .args .n) _ _)
 
-mul-key-words : tie.Need-mul-key-words Inv-loop μ-loop
-mul-key-words c = search needs
-
-array-read-key-words : tie.Need-array-read-key-words Inv-loop μ-loop
-array-read-key-words c = search needs
-
-key-words-requires : tie.Need-key-words-requires Inv-loop μ-loop
-key-words-requires c κs = search needs
+key-requires : tie.Need-key-requires Inv-loop μ-loop
+key-requires c κs = (omega arith, omega arith, omega (arith, c .before .before .before .loop .inv .1 .low))
 
 add-k : tie.Need-add-k Inv-loop μ-loop
 add-k c = search needs
@@ -39,24 +26,18 @@ loop-less c = search needs
 
 loop-again : tie.Need-loop-again Inv-loop μ-loop
 loop-again c =
-    let l = c .before .before .before .loop in
+    let l = c .before .before .before .before .loop in
     let a = c .before .before .before .before .before .args in
-    (omega arith, keys-next (a .encoding) (a .n) (c .before .before .before .before .firsts .result) (a .nexts .now) (l .k) (l .out) _ (omega arith) (l .inv .1) (c .key-words .ensures))
+    (omega arith, keys-next (a .encoding) (a .writers .now) (a .marks .now) (a .n) _ _ (l .k) _ _ _ _ _ _ (l .inv .1) (c .key .ensures))
 
-put-readers-requires : tie.Need-put-readers-requires Inv-loop μ-loop
-put-readers-requires c κs = search needs
-
-array-write-out : tie.Need-array-write-out Inv-loop μ-loop
-array-write-out c = search needs
+element-write-out : tie.Need-element-write-out Inv-loop μ-loop
+element-write-out c = search needs
 
 returns : tie.Need-returns Inv-loop μ-loop
-unfolding tableBy
 returns c =
-    let l = c .before .before .before .loop in
-    let h = c .before .before .before .before .firsts in
-    let a = c .before .before .before .before .before .args in
-    keys-all (a .encoding) (a .n) (h .result) (a .nexts .now) (a .marks .now) (l .k) (l .out) (omega arith) (l .inv .1) _ (c .put-readers .ensures)
-    ∙ ap (λ (x : List ℕ). map (tableWord (a .encoding) (a .n) x (a .marks .now) (a .nexts .now)) (upTo 3073)) (h .ensures)
+    let l = c .before .loop in
+    let a = c .before .before .args in
+    keys-all (a .encoding) (a .writers .now) (a .marks .now) (a .n) _ _ (l .k) _ _ _ (omega arith) (l .inv .1)
 
 pub table-spec : {M : Type 1} → statement M
 table-spec =
@@ -64,14 +45,10 @@ table-spec =
     (tie.spec
     Inv-loop
     μ-loop
-    firsts-requires
     loop-holds
-    mul-key-words
-    array-read-key-words
-    key-words-requires
+    key-requires
     add-k
     loop-less
     loop-again
-    put-readers-requires
-    array-write-out
+    element-write-out
     returns)

@@ -1,5 +1,4 @@
 -- `log::bodies::mark` meets its contract. Assumes nothing.
-use mathlib.Core.Path.{_≡_}
 use Rattle.log.specs.Tests.{markBy}
 use borrow.Author.Tests.{eq-eqb, ne-eqb}
 use borrow.Author.Needs.{needs}

@@ -1,74 +1,61 @@
 -- `log::bodies::of_transaction` meets its contract. Assumes nothing.
 use mathlib.Core.Path.{_≡_, ap, sym, _∙_}
 use native.Mathlib.Omega.{arith}
-use Prim.Native.Nat.{ℕ, _≤_, _-_}
-use Rattle.model.specs.Log.{firstNumber, bodyNumber}
+use Prim.Native.Nat.{_≤_, _-_}
+use Rattle.model.specs.Log.{firstNumber, bodyNumber, bodiesNumber, startAt, countAt}
+use Rattle.log.specs.declared.view.Entry.{Entry}
 use Rattle.log.proofs.Numbers.{Sofar, sofar-start, sofar-stop, sofar-key, sofar-next}
+use Rattle.log.proofs.Placing.{placed-entry, placed-body}
 use borrow.Author.Needs.{needs}
 use Rattle.log.proofs.bodies.of_transaction.Statement.{statement}
 use Rattle.log.proofs.bodies.of_transaction.Tie as tie
 
 abbrev Inv-loop : tie.InvT-loop
-Inv-loop log n first count reads₀ writes₀ m₀ reads writes m = (m ≤ count) × Sofar log first m reads writes
+Inv-loop log n t count reads₀ writes₀ m₀ reads writes m = (m ≤ count) × Sofar log (startAt log t) m reads writes
 
 abbrev μ-loop : tie.MeasureT-loop
-μ-loop log n first count reads₀ writes₀ m₀ reads writes m = count - m
+μ-loop log n t count reads₀ writes₀ m₀ reads writes m = count - m
+
+entry-of-requires : tie.Need-entry-of-requires Inv-loop μ-loop
+entry-of-requires c κs = placed-entry _ (c .before .args .n) (c .before .pre .0) (c .before .args .t) (c .before .pre .1)
+
+cast-count : tie.Need-cast-count Inv-loop μ-loop
+cast-count c = search needs
 
 loop-holds : tie.Need-loop-holds Inv-loop μ-loop
 loop-holds c = (omega arith, sofar-start _ _)
 
-mul-at : tie.Need-mul-at Inv-loop μ-loop
-mul-at c = search needs
+body-of-requires : tie.Need-body-of-requires Inv-loop μ-loop
+body-of-requires c κs =
+    let s = c .before .before .before .before .before in
+    let k : c .before .before .before .entry-of .result .count ≡ countAt (s .args .log .now) (s .args .t) = ap (λ (e : Entry). e .count) (c .before .before .before .entry-of .ensures) in
+    placed-body (s .args .log .now) (s .args .n) (s .pre .0) (s .args .t) (s .pre .1) (c .before .loop .m) (omega (arith, k))
 
-add-at : tie.Need-add-at Inv-loop μ-loop
-add-at c = search needs
-
-add-at-2 : tie.Need-add-at-2 Inv-loop μ-loop
-add-at-2 c = search needs
-
-mul-at-2 : tie.Need-mul-at-2 Inv-loop μ-loop
-mul-at-2 c = search needs
-
-add-at-3 : tie.Need-add-at-3 Inv-loop μ-loop
-add-at-3 c = search needs
-
-body-requires : tie.Need-body-requires Inv-loop μ-loop
-body-requires c κs = search needs
+number-requires : tie.Need-number-requires Inv-loop μ-loop
+number-requires c κs = search needs
 
 returns : tie.Need-returns Inv-loop μ-loop
+unfolding bodiesNumber
 returns c =
-    let l = c .before .before .before .loop in
-    let a = c .before .before .before .before .before .args in
-    sofar-stop (a .log .now) (a .first) (l .m) (a .n) (l .reads) (l .writes) _ (search needs) (l .inv .1) (c .before .body .ensures) (a .count) (search needs) (c .if1 .taken)
-
-shared-slice-read-kind : tie.Need-shared-slice-read-kind Inv-loop μ-loop
-shared-slice-read-kind c = search needs
-
-add-key : tie.Need-add-key Inv-loop μ-loop
-add-key c = search needs
-
-shared-slice-read-key : tie.Need-shared-slice-read-key Inv-loop μ-loop
-shared-slice-read-key c = search needs
+    let k : c .before .before .before .before .before .before .entry-of .result .count ≡ countAt (c .before .before .before .before .before .before .before .before .args .log .now) (c .before .before .before .before .before .before .before .before .args .t) = ap (λ (e : Entry). e .count) (c .before .before .before .before .before .before .entry-of .ensures) in
+    let l = c .before .before .before .before .loop in
+    let a = c .before .before .before .before .before .before .before .before .args in
+    sofar-stop (a .log .now) (startAt (a .log .now) (a .t)) (l .m) (a .n) (l .reads) (l .writes) _ _ (c .before .before .before .before .before .before .before .before .pre .0 .count) (l .inv .1) (c .before .before .body-of .ensures .is) (c .before .number .ensures) _ (omega (arith, k)) (c .if1 .taken)
 
 cast-key : tie.Need-cast-key Inv-loop μ-loop
-cast-key c =
-    let l = c .before .before .before .before .before .loop in
-    let a = c .before .before .before .before .before .before .before .args in
-    record {
-      fits = omega (arith, sofar-key (a .log .now) (a .first) (l .m) (a .n) (l .reads) (l .writes) _ (search needs) (l .inv .1) (c .before .before .before .body .ensures) (c .before .before .if1 .left));
-    }
+cast-key c = search needs
 
 mark-requires : tie.Need-mark-requires Inv-loop μ-loop
 mark-requires c κs =
     let l = c .before .before .before .before .before .loop in
-    let a = c .before .before .before .before .before .before .before .args in
-    sofar-key (a .log .now) (a .first) (l .m) (a .n) (l .reads) (l .writes) _ (search needs) (l .inv .1) (c .before .before .before .body .ensures) (c .before .before .if1 .left)
+    let a = c .before .before .before .before .before .before .before .before .before .args in
+    sofar-key (a .log .now) (startAt (a .log .now) (a .t)) (l .m) (a .n) (l .reads) (l .writes) _ _ (c .before .before .before .before .before .before .before .before .before .pre .0 .count) (l .inv .1) (c .before .before .before .body-of .ensures .is) (c .before .before .number .ensures) (c .before .if1 .left)
 
 mark-requires-2 : tie.Need-mark-requires-2 Inv-loop μ-loop
 mark-requires-2 c κs =
     let l = c .before .before .before .before .before .before .loop in
-    let a = c .before .before .before .before .before .before .before .before .args in
-    sofar-key (a .log .now) (a .first) (l .m) (a .n) (l .reads) (l .writes) _ (search needs) (l .inv .1) (c .before .before .before .before .body .ensures) (c .before .before .before .if1 .left)
+    let a = c .before .before .before .before .before .before .before .before .before .before .args in
+    sofar-key (a .log .now) (startAt (a .log .now) (a .t)) (l .m) (a .n) (l .reads) (l .writes) _ _ (c .before .before .before .before .before .before .before .before .before .before .pre .0 .count) (l .inv .1) (c .before .before .before .before .body-of .ensures .is) (c .before .before .before .number .ensures) (c .before .before .if1 .left)
 
 add-m : tie.Need-add-m Inv-loop μ-loop
 add-m c = search needs
@@ -79,17 +66,17 @@ loop-less c = search needs
 loop-again : tie.Need-loop-again Inv-loop μ-loop
 loop-again c =
     let l = c .before .before .before .before .before .before .before .loop in
-    let a = c .before .before .before .before .before .before .before .before .before .args in (
-      omega arith,
-      sofar-next (a .log .now) (a .first) (l .m) (a .n) (l .reads) (l .writes) _ (search needs) (l .inv .1) (c .before .before .before .before .before .body .ensures) (c .before .before .before .before .if1 .left) _ _ (c .before .mark .ensures) (c .mark2 .ensures),
-    )
+    let a = c .before .before .before .before .before .before .before .before .before .before .before .args in
+    (omega arith, sofar-next (a .log .now) (startAt (a .log .now) (a .t)) (l .m) (a .n) (l .reads) (l .writes) _ _ (c .before .before .before .before .before .before .before .before .before .before .before .pre .0 .count) (l .inv .1) (c .before .before .before .before .before .body-of .ensures .is) (c .before .before .before .before .number .ensures) (c .before .before .before .if1 .left) _ _ (c .before .mark .ensures) (c .mark2 .ensures))
 
 returns-2 : tie.Need-returns-2 Inv-loop μ-loop
+unfolding bodiesNumber
 returns-2 c =
     let l = c .before .loop in
-    let a = c .before .before .before .args in
-    let end : l .m ≡ a .count = omega arith in
-    sym (l .inv .1 .none) ∙ ap (firstNumber (bodyNumber (a .log .now) (a .first))) end
+    let a = c .before .before .before .before .before .args in
+    let k : c .before .before .before .entry-of .result .count ≡ countAt (a .log .now) (a .t) = ap (λ (e : Entry). e .count) (c .before .before .before .entry-of .ensures) in
+    let end : l .m ≡ countAt (a .log .now) (a .t) = omega (arith, k) in
+    sym (l .inv .1 .none) ∙ ap (firstNumber (bodyNumber (a .log .now) (startAt (a .log .now) (a .t)))) end
 
 pub of-transaction-spec : {M : Type 1} → statement M
 of-transaction-spec =
@@ -97,17 +84,12 @@ of-transaction-spec =
     (tie.spec
     Inv-loop
     μ-loop
+    entry-of-requires
+    cast-count
     loop-holds
-    mul-at
-    add-at
-    add-at-2
-    mul-at-2
-    add-at-3
-    body-requires
+    body-of-requires
+    number-requires
     returns
-    shared-slice-read-kind
-    add-key
-    shared-slice-read-key
     cast-key
     mark-requires
     mark-requires-2

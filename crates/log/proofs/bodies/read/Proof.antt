@@ -1,6 +1,6 @@
 -- `log::bodies::read` meets its contract. Assumes nothing.
-use mathlib.Core.Path.{_≡_, ap, sym, _∙_}
-use borrow.Author.Tests.{eq-eqb, ne-eqb, lt-ltb, le-ltb, not-true, not-false}
+use mathlib.Core.Path.{sym, _∙_}
+use borrow.Author.Tests.{not-true, not-false}
 use Rattle.log.specs.Tests.{readBy}
 use borrow.Author.Needs.{needs}
 use Rattle.log.proofs.bodies.read.Statement.{statement}

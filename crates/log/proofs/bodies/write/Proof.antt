@@ -1,5 +1,5 @@
 -- `log::bodies::write` meets its contract. Assumes nothing.
-use mathlib.Core.Path.{_≡_, ap, sym, _∙_}
+use mathlib.Core.Path.{sym, _∙_}
 use Rattle.log.specs.Tests.{writeBy}
 use borrow.Author.Needs.{needs}
 use Rattle.log.proofs.bodies.write.Statement.{statement}

@@ -1,5 +1,4 @@
 -- `log::entries::entry_number` meets its contract. Assumes nothing.
-use mathlib.Core.Path.{_≡_}
 use Rattle.log.specs.Tests.{entryBy}
 use borrow.Author.Tests.{eq-eqb, ne-eqb, lt-ltb, le-ltb}
 use borrow.Author.Needs.{needs}

@@ -1,5 +1,5 @@
 -- `log::entries::or_else` meets its contract. Assumes nothing.
-use borrow.Author.Tests.{eq-eqb, ne-eqb, lt-ltb, le-ltb}
+use borrow.Author.Tests.{eq-eqb, ne-eqb}
 use Rattle.log.proofs.entries.or_else.Statement.{statement}
 use Rattle.log.proofs.entries.or_else.Tie as tie
 

@@ -6,7 +6,6 @@ use Rattle.replay.specs.Steps.{keptBy}
 use Rattle.log.proofs.Reading.{few}
 use Rattle.model.specs.Lists.{all, upTo}
 use lib.Dec.{T}
-use mathlib.Core.Path.{_≡_}
 use borrow.Author.Needs.{needs}
 use native.Mathlib.Omega.{arith}
 use Prim.Native.Nat.{_+_, _≤_, _-_}

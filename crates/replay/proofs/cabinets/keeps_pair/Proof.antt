@@ -1,7 +1,7 @@
 -- `replay::cabinets::keeps_pair` meets its contract. Assumes nothing.
 use Rattle.replay.specs.Steps.{keptBy}
 use Rattle.log.proofs.Reading.{inside-few}
-use mathlib.Core.Path.{_≡_, sym, _∙_}
+use mathlib.Core.Path.{sym, _∙_}
 use borrow.Author.Tests.{not-true, not-false}
 use borrow.Author.Needs.{needs}
 use Rattle.replay.proofs.cabinets.keeps_pair.Statement.{statement}

@@ -1,7 +1,7 @@
 -- `replay::cabinets::must_precede` meets its contract. Assumes nothing.
 use Rattle.model.proofs.Loaded.{cabinet-at}
 use lib.Dec.{eqb}
-use mathlib.Core.Path.{_≡_, sym, ap, ap₂, _∙_}
+use mathlib.Core.Path.{sym, ap₂, _∙_}
 use borrow.Author.Tests.{lt-ltb, le-ltb}
 use borrow.Author.Needs.{needs}
 use Rattle.replay.proofs.cabinets.must_precede.Statement.{statement}

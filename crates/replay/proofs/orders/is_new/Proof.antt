@@ -1,7 +1,7 @@
 -- `replay::orders::is_new` meets its contract. Assumes nothing.
 use Rattle.replay.specs.Orders.{isNew}
 use mathlib.Core.Bool.{not}
-use mathlib.Core.Path.{_≡_, ap}
+use mathlib.Core.Path.{ap}
 use borrow.Author.Tests.{lt-ltb, le-ltb}
 use borrow.Author.Needs.{needs}
 use Rattle.replay.proofs.orders.is_new.Statement.{statement}

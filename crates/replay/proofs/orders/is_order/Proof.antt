@@ -2,9 +2,7 @@
 use Rattle.replay.proofs.Ordering.{Upto, upto-none, upto-next, upto-stop, upto-end, order-long, new-low}
 use Rattle.replay.proofs.Alls.{held, failed}
 use lib.ListN.{length, getD}
-use lib.Bits.{bitOr}
-use mathlib.Core.Bool.{not}
-use mathlib.Core.Path.{_≡_, sym, ap, subst, _∙_}
+use mathlib.Core.Path.{sym, subst}
 use borrow.Author.Needs.{needs}
 use native.Mathlib.Omega.{arith}
 use Prim.Native.Nat.{_+_, _≤_, _-_}

@@ -1,6 +1,5 @@
 -- `replay::tables::agrees` meets its contract. Assumes nothing.
 use Rattle.replay.specs.Steps.{agreesBy}
-use mathlib.Core.Path.{_≡_}
 use borrow.Author.Tests.{eq-eqb, ne-eqb}
 use borrow.Author.Needs.{needs}
 use Rattle.replay.proofs.tables.agrees.Statement.{statement}

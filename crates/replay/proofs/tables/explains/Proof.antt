@@ -2,14 +2,14 @@
 use Rattle.replay.proofs.Running.{ranBy, ran-none, ran-next, agreesAt, agrees-by, explains-is}
 use Rattle.replay.proofs.Placing.{order-in-log}
 use Rattle.replay.proofs.Alls.{all-next, all-stop, all-end, held, failed}
-use Rattle.replay.specs.Steps.{readsAgree, storedBy}
+use Rattle.replay.specs.Steps.{storedBy}
 use Rattle.model.proofs.Places.{order-out}
 use Rattle.model.specs.Log.{transactionsIn, historyOf}
 use Rattle.model.specs.Lists.{all, upTo}
 use lib.ListN.{length, getD, take, replicate}
 use lib.Dec.{T}
 use mathlib.Core.Bool.{true}
-use mathlib.Core.Path.{_≡_, refl, ap, _∙_}
+use mathlib.Core.Path.{_≡_, ap, _∙_}
 use borrow.Author.Needs.{needs}
 use native.Mathlib.Omega.{arith}
 use Prim.Native.Nat.{_≤_, _-_}
@@ -49,8 +49,8 @@ returns c =
 
 store-requires : tie.Need-store-requires Inv-loop μ-loop
 store-requires c κs =
-    let s = c .before .before .before .before .before .before .before in
-    order-in-log (s .args .log .now) (s .args .order .now) (s .pre .0) (s .pre .1) (c .before .before .before .before .loop .i) (search needs)
+    let s = c .before .before .before .before .before .before .before .before in
+    order-in-log (s .args .log .now) (s .args .order .now) (s .pre .0) (s .pre .1) (c .before .before .before .before .before .loop .i) (search needs)
 
 add-i : tie.Need-add-i Inv-loop μ-loop
 add-i c = search needs
@@ -60,12 +60,12 @@ loop-less c = search needs
 
 loop-again : tie.Need-loop-again Inv-loop μ-loop
 loop-again c =
-    let b = c .before .before .before .before .before .before .before .before .args .log .now in
-    let o = c .before .before .before .before .before .before .before .before .args .order .now in
-    let l = c .before .before .before .before .before .loop in (
+    let b = c .before .before .before .before .before .before .before .before .before .args .log .now in
+    let o = c .before .before .before .before .before .before .before .before .before .args .order .now in
+    let l = c .before .before .before .before .before .before .loop in (
       omega arith,
       c .store .ensures ∙ ap (λ x. storedBy true (historyOf b) x (getD o (l .i) 0)) (l .inv .1) ∙ ran-next true b (replicate 32 65535) o (l .i) (search needs),
-      all-next (agreesAt b o) (l .i) (l .inv .2) (held _ _ (agrees-by b o (l .i) _ _ (l .inv .1) (c .before .before .reads-agree .ensures)) (c .before .if1 .left)),
+      all-next (agreesAt b o) (l .i) (l .inv .2) (held _ _ (agrees-by b o (l .i) _ _ (l .inv .1) (c .before .before .before .reads-agree .ensures)) (c .before .before .if1 .left)),
     )
 
 returns-2 : tie.Need-returns-2 Inv-loop μ-loop

@@ -30,8 +30,8 @@ cast-store c = record { fits = omega (arith, c .shared-slice-known3 .given (c .b
 
 store-requires : tie.Need-store-requires Inv-loop μ-loop
 store-requires c κs =
-    let s = c .before .before .before .before .before in
-    order-in-log (s .args .log .now) (s .args .order .now) (s .pre .0) (s .pre .1) (c .before .before .loop .i) (search needs)
+    let s = c .before .before .before .before .before .before in
+    order-in-log (s .args .log .now) (s .args .order .now) (s .pre .0) (s .pre .1) (c .before .before .before .loop .i) (search needs)
 
 add-i : tie.Need-add-i Inv-loop μ-loop
 add-i c = search needs
@@ -41,9 +41,9 @@ loop-less c = search needs
 
 loop-again : tie.Need-loop-again Inv-loop μ-loop
 loop-again c =
-    let b = c .before .before .before .before .before .before .args .log .now in
-    let o = c .before .before .before .before .before .before .args .order .now in
-    let l = c .before .before .before .loop in
+    let b = c .before .before .before .before .before .before .before .args .log .now in
+    let o = c .before .before .before .before .before .before .before .args .order .now in
+    let l = c .before .before .before .before .loop in
     (omega arith, c .store .ensures ∙ ap (λ x. storedBy false (historyOf b) x (getD o (l .i) 0)) (l .inv .1) ∙ ran-next false b (replicate 32 0) o (l .i) (search needs))
 
 returns : tie.Need-returns Inv-loop μ-loop

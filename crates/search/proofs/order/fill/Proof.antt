@@ -19,26 +19,26 @@ loop-holds c = filling-none _ _ _ _ _ _ _ _ (c .before .pre) refl tt
 pick-requires : tie.Need-pick-requires Inv-loop μ-loop
 pick-requires c κs = let l = c .before .before .loop in
     let f = l .inv in
-    (f .begun .stage, λ x m. f .begun .inside x m .0, filling-open _ _ _ _ (l .k) _ _ _ _ (l .out) f (omega arith))
+    (f .begun .progress, λ x m. f .begun .inside x m .0, filling-open _ _ _ _ (l .k) _ _ _ _ (l .out) f (omega arith))
 
 prune-requires : tie.Need-prune-requires Inv-loop μ-loop
-prune-requires c κs = let st = c .before .before .before .before .before .before .loop .inv .begun .stage in
+prune-requires c κs = let st = c .before .before .before .before .before .before .loop .inv .begun .progress in
     record { given = st .ready .given; partial = c .before .before .before .pick .ensures .placed .partial; fit = st .ready .fit }
 
 without-requires : tie.Need-without-requires Inv-loop μ-loop
 without-requires c κs =
     let f = c .before .before .before .before .before .before .before .before .loop .inv .begun in
-    omega (arith, f .inside _ (c .before .before .before .before .before .pick .ensures .member) .0, f .stage .few)
+    omega (arith, f .inside _ (c .before .before .before .before .before .pick .ensures .member) .0, f .progress .few)
 
 cast-out : tie.Need-cast-out Inv-loop μ-loop
 cast-out c = let f = c .before .before .before .before .before .before .before .before .before .loop .inv .begun in
-    omega (arith, f .inside _ (c .before .before .before .before .before .before .pick .ensures .member) .0, f .stage .few)
+    omega (arith, f .inside _ (c .before .before .before .before .before .before .pick .ensures .member) .0, f .progress .few)
 
 array-write-out : tie.Need-array-write-out Inv-loop μ-loop
-array-write-out c = omega (arith, c .before .before .before .before .before .before .before .before .before .loop .inv .begun .stage .few)
+array-write-out c = omega (arith, c .before .before .before .before .before .before .before .before .before .loop .inv .begun .progress .few)
 
 add-k : tie.Need-add-k Inv-loop μ-loop
-add-k c = omega (arith, c .before .before .before .before .before .before .before .before .before .loop .inv .begun .stage .few)
+add-k c = omega (arith, c .before .before .before .before .before .before .before .before .before .loop .inv .begun .progress .few)
 
 loop-less : tie.Need-loop-less Inv-loop μ-loop
 loop-less c = omega arith

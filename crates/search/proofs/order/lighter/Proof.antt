@@ -1,12 +1,12 @@
 -- `search::order::lighter` meets its contract. Assumes nothing.
 use native.Mathlib.Omega.{arith}
 use Rattle.search.proofs.Lights.{lighter-none, lighter-next}
-use Rattle.search.proofs.Steps.{nodes-of}
+use Rattle.search.proofs.Steps.{nodes-of, room-at}
 use Rattle.search.proofs.order.lighter.Statement.{statement}
 use Rattle.search.proofs.order.lighter.Tie as tie
 use Prim.Native.Nat.{_≤_, _-_}
 use Rattle.search.specs.Orders.{Lighter}
-use Rattle.search.proofs.con_at.Reads as con-at-reads
+use Rattle.search.proofs.constraint_at.Reads as constraint-at-reads
 use Rattle.search.proofs.next_open.Reads as next-open-reads
 use Rattle.search.proofs.order.drop_if.Reads as drop-if-reads
 use Rattle.search.proofs.order.opposite.Reads as opposite-reads
@@ -26,11 +26,11 @@ next-open-requires c κs = let a = c .before .before .before .pre in (a .1 .few,
 returns : tie.Need-returns Inv-loop μ-loop
 returns c = c .before .before .before .loop .inv .1
 
-con-at-requires : tie.Need-con-at-requires Inv-loop μ-loop
-con-at-requires c κs = (omega arith, c .before .before .before .before .before .pre .1)
+constraint-at-requires : tie.Need-constraint-at-requires Inv-loop μ-loop
+constraint-at-requires c κs = room-at _ _ _ (c .before .before .before .before .before .pre .1) (omega arith)
 
 opposite-requires : tie.Need-opposite-requires Inv-loop μ-loop
-opposite-requires c κs = nodes-of _ _ _ _ (c .before .before .before .before .before .before .before .pre .1) (omega arith) (c .before .con-at .ensures)
+opposite-requires c κs = nodes-of _ _ _ _ (c .before .before .before .before .before .before .before .pre .1) (omega arith) (c .before .constraint-at .ensures)
 
 drop-if-requires : tie.Need-drop-if-requires Inv-loop μ-loop
 drop-if-requires c κs = (omega (arith, c .before .before .before .before .before .before .before .before .pre .1 .few), c .before .before .before .before .next-open .ensures .some (omega arith))
@@ -42,7 +42,7 @@ loop-less : tie.Need-loop-less Inv-loop μ-loop
 loop-less c = omega (arith, c .before .before .before .before .before .next-open .ensures .bound)
 
 loop-again : tie.Need-loop-again Inv-loop μ-loop
-loop-again c = (omega arith, lighter-next _ _ _ _ _ _ _ (c .before .before .before .before .before .before .before .loop .inv .1) (c .before .opposite .ensures) (c .before .before .before .con-at .ensures) (c .drop-if .ensures))
+loop-again c = (omega arith, lighter-next _ _ _ _ _ _ _ (c .before .before .before .before .before .before .before .loop .inv .1) (c .before .opposite .ensures) (c .before .before .before .constraint-at .ensures) (c .drop-if .ensures))
 
 pub lighter-spec : {M : Type 1} → statement M
 lighter-spec =
@@ -53,7 +53,7 @@ lighter-spec =
     loop-holds
     next-open-requires
     returns
-    con-at-requires
+    constraint-at-requires
     opposite-requires
     drop-if-requires
     add-i

@@ -33,12 +33,12 @@ loop-holds c = let b = c .before .before .before .before .before in
 put-first-requires : tie.Need-put-first-requires Inv-loop μ-loop
 put-first-requires c κs = let p = c .before .loop .inv in
     let k = candidate _ _ _ _ _ _ _ _ _ _ _ _ p _ (p .free-in) in
-    (k .0, p .stage .ready .partial, k .1, p .un, k .2)
+    (k .0, p .progress .ready .partial, k .1, p .un, k .2)
 
 put-first-requires-2 : tie.Need-put-first-requires-2 Inv-loop μ-loop
 put-first-requires-2 c κs = let p = c .before .before .loop .inv in
     let k = candidate _ _ _ _ _ _ _ _ _ _ _ _ p _ (p .free-in) in
-    (k .0, p .stage .witness .partial, k .1, p .ov, p .free-over)
+    (k .0, p .progress .witness .partial, k .1, p .ov, p .free-over)
 
 returns : tie.Need-returns Inv-loop μ-loop
 returns c = picked-free _ _ _ _ _ _ _ _ _ _ _ _ (c .before .before .before .loop .inv) (c .before .before .if1 .taken) _ _ (c .before .put-first .ensures) (c .put-first2 .ensures)
@@ -46,7 +46,7 @@ returns c = picked-free _ _ _ _ _ _ _ _ _ _ _ _ (c .before .before .before .loop
 put-first-requires-3 : tie.Need-put-first-requires-3 Inv-loop μ-loop
 put-first-requires-3 c κs = let p = c .before .loop .inv in
     let k = candidate _ _ _ _ _ _ _ _ _ _ _ _ p _ (lowest-cand _ _ _ _ _ _ _ _ _ _ _ _ p) in
-    (k .0, p .stage .ready .partial, k .1, p .un, k .2)
+    (k .0, p .progress .ready .partial, k .1, p .un, k .2)
 
 walk-requires : tie.Need-walk-requires Inv-loop μ-loop
 walk-requires c κs = picking-ready _ _ _ _ _ _ _ _ _ _ _ _ (c .before .before .loop .inv) _ (c .put-first3 .ensures)

@@ -1,0 +1,99 @@
+-- Replies, judgements and settings by their tests. Assumes nothing.
+use Prim.Native.Nat.{ℕ, zero, suc, _≤_}
+use native.Mathlib.Omega.{arith}
+use mathlib.Core.Path.{_≡_, refl, sym, ap, ap₂}
+use mathlib.Core.Logic.{_≢_}
+use mathlib.Core.Bool.{Bool, true, false, not, cond, _&&_}
+use mathlib.Core.List.{List}
+use lib.Dec.{T, eqb, ltb, eqb→eq, nltb→le, eqb·suc-zero}
+use borrow.Author.Tests.{eq-eqb, ne-eqb}
+use Rattle.model.specs.History.{isOrder}
+use Rattle.answers.specs.declared.Reply.the-variants.{Taken, Refused as RefusedReply}
+use Rattle.answers.specs.declared.Judgement.the-variants.{Legal, Illegal, Refused}
+use Rattle.answers.specs.Numbers.{numberOf, replyOf, judgementNumber, judgementYes, judgementOf}
+use Rattle.answers.specs.Stages.{orderRefusal}
+use Rattle.answers.specs.Settings.{settingRefusal, placesRefusal}
+
+-- ---- replies
+
+pub reply-none : (n : ℕ) → n ≡ 0 → replyOf n ≡ Taken
+unfolding replyOf
+reply-none n e = ap (λ b. cond b Taken (RefusedReply n)) (eq-eqb n 0 e)
+
+pub reply-some : (n : ℕ) → n ≢ 0 → replyOf n ≡ RefusedReply n
+unfolding replyOf
+reply-some n f = ap (λ b. cond b Taken (RefusedReply n)) (ne-eqb n 0 f)
+
+pub number-reply : (n : ℕ) → numberOf (replyOf n) ≡ n
+unfolding replyOf
+number-reply zero = refl
+number-reply (suc n) = ap (λ (b : Bool). numberOf (cond b Taken (RefusedReply (suc n)))) (eqb·suc-zero n)
+
+-- ---- judgements
+
+-- the number and the yes or no that a judgement is made of come out of it again
+pub judgement-number : (n : ℕ) (y : Bool) → judgementNumber (judgementOf n y) ≡ n
+unfolding judgementOf
+judgement-number n y = go (eqb n 0) y (λ t. eqb→eq n 0 t)
+  where
+    go : (x z : Bool) → (T x → n ≡ 0) → judgementNumber (cond x (cond z Legal Illegal) (Refused n)) ≡ n
+    go true true f = sym (f tt)
+    go true false f = sym (f tt)
+    go false z f = refl
+
+pub judgement-yes : (n : ℕ) (y : Bool) → judgementYes (judgementOf n y) ≡ (eqb n 0 && y)
+unfolding judgementOf
+judgement-yes n y = go (eqb n 0) y
+  where
+    go : (x z : Bool) → judgementYes (cond x (cond z Legal Illegal) (Refused n)) ≡ (x && z)
+    go true true = refl
+    go true false = refl
+    go false z = refl
+
+-- where the number is not 0, yes or no makes no difference
+pub judgement-only : (n : ℕ) (y : Bool) → judgementOf n (eqb n 0 && y) ≡ judgementOf n y
+unfolding judgementOf
+judgement-only n y = go (eqb n 0)
+  where
+    go : (x : Bool) → cond x (cond (x && y) Legal Illegal) (Refused n) ≡ cond x (cond y Legal Illegal) (Refused n)
+    go true = refl
+    go false = refl
+
+-- ---- over a log
+
+module _ (n : ℕ) (o : List ℕ) (y : Bool) where
+  pub judged-none : isOrder n o ≡ false → Refused 13 ≡ judgementOf (orderRefusal n o) y
+  unfolding orderRefusal judgementOf
+  judged-none e = sym (ap (λ b. judgementOf (cond b 0 13) y) e)
+
+  pub judged-some : (x : Bool) → isOrder n o ≡ true → y ≡ x → cond x Legal Illegal ≡ judgementOf (orderRefusal n o) y
+  unfolding orderRefusal judgementOf
+  judged-some x e f = sym (ap₂ (λ b z. judgementOf (cond b 0 13) z) e f)
+
+-- ---- settings
+
+pub setting-zero : (e pruning : ℕ) → settingRefusal e pruning ≡ 0 → e ≤ 2
+unfolding settingRefusal
+setting-zero e pruning = go (ltb 2 e) (λ t. nltb→le 2 e t)
+  where
+    go : (b : Bool) → (T (not b) → e ≤ 2) → _≡_ {A = ℕ} (cond b 12 (cond (ltb 1 pruning) 12 0)) 0 → e ≤ 2
+    go true f z = absurd (omega arith)
+    go false f z = f tt
+
+pub places-few : (n places words : ℕ) → placesRefusal n places words ≡ 0 → n ≤ 4096
+unfolding placesRefusal
+places-few n places words = go (ltb 4096 n) (λ t. nltb→le 4096 n t)
+  where
+    go : (a : Bool) → (T (not a) → n ≤ 4096) → _≡_ {A = ℕ} (cond a 14 (cond (ltb places n) 25 (cond (ltb words 32) 25 0))) 0 → n ≤ 4096
+    go true f z = absurd (omega arith)
+    go false f z = f tt
+
+pub places-zero : (n places words : ℕ) → placesRefusal n places words ≡ 0 → (n ≤ places) × (32 ≤ words)
+unfolding placesRefusal
+places-zero n places words = go (ltb 4096 n) (ltb places n) (ltb words 32) (λ t. nltb→le places n t) (λ t. nltb→le words 32 t)
+  where
+    go : (a b c : Bool) → (T (not b) → n ≤ places) → (T (not c) → 32 ≤ words) → _≡_ {A = ℕ} (cond a 14 (cond b 25 (cond c 25 0))) 0 → (n ≤ places) × (32 ≤ words)
+    go true b c f g z = absurd (omega arith)
+    go false true c f g z = absurd (omega arith)
+    go false false true f g z = absurd (omega arith)
+    go false false false f g z = (f tt, g tt)

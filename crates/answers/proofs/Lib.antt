@@ -1,0 +1,4 @@
+pub mod Answering
+pub mod Copying
+pub mod Finding
+pub mod Holding

@@ -1,0 +1,34 @@
+-- `decision::first_of_few` meets its contract. Assumes nothing.
+use Rattle.decision.proofs.Decision.{asked, answered}
+use mathlib.Core.Path.{sym}
+use native.Mathlib.Omega.{arith}
+use borrow.Author.Needs.{needs}
+use Rattle.decision.proofs.first_of_few.Statement.{statement}
+use Rattle.decision.proofs.first_of_few.Tie as tie
+
+transactions-requires : tie.Need-transactions-requires
+transactions-requires c κs = search needs
+
+slice-aggregate-words : tie.Need-slice-aggregate-words
+slice-aggregate-words c = search needs
+
+words-requires : tie.Need-words-requires
+words-requires c κs = let p = c .before .before .before .pre .2 in (p .few, omega (arith, p .few))
+
+slice-aggregate-first-closed : tie.Need-slice-aggregate-first-closed
+slice-aggregate-first-closed c = sym (c .before .before .words .ensures .long)
+
+first-closed-requires : tie.Need-first-closed-requires
+first-closed-requires c κs =
+    let s = c .before .before .before .before .before .before in
+    asked (s .args .log .now) (s .pre .0) _ (c .before .before .before .before .transactions .ensures .0) (s .args .tables .now) (s .args .chosen .now) _ _ (s .pre .2) 256 (omega (arith, s .pre .2 .few)) _ (c .before .before .words .ensures)
+
+returns : tie.Need-returns
+returns c =
+    let s = c .before .before .before .before .before .before .before in
+    answered (s .args .log .now) (s .pre .0) _ (c .before .before .before .before .before .transactions .ensures .0) (s .args .tables .now) (s .args .chosen .now) _ _ (s .pre .2) 256 (omega (arith, s .pre .2 .few)) _ (c .before .before .before .words .ensures) _ (c .first-closed .ensures)
+
+pub first-of-few-spec : {M : Type 1} → statement M
+first-of-few-spec =
+    tie.close
+    (tie.spec transactions-requires slice-aggregate-words words-requires slice-aggregate-first-closed first-closed-requires returns)

@@ -1,0 +1,135 @@
+-- What is found over the bytes of a log is what Decide gives of the case that holds it, and what is written of an order is what Order and Table write.
+-- Assumes nothing.
+use mathlib.Core.Path.{_≡_, refl, sym, ap, ap₂, subst, _∙_}
+use mathlib.Core.Logic.{_≢_}
+use Prim.Native.Nat.{ℕ, _<_, _≤_}
+use native.Mathlib.Omega.{arith}
+use mathlib.Core.Bool.{Bool, true, false, cond}
+use mathlib.Core.List.{List, append-nil}
+use mathlib.Core.Option.{Option, none, some}
+use lib.Dec.{T, ltb}
+use lib.ListN.{length, take, replicate}
+use borrow.Author.Tests.{lt-ltb, le-ltb}
+use Rattle.model.specs.History.{History, size, legal, isOrder, finalTable}
+use Rattle.model.specs.Log.{loadNumber, transactionsIn, historyOf}
+use Rattle.model.specs.Lent.{orderNumbers, writtenOrder, writtenTable}
+use Rattle.model.specs.Search.{firstLegal}
+use Rattle.model.proofs.Basics.{true-eq}
+use Rattle.model.proofs.First.{first-some, legal-order}
+use Rattle.model.proofs.Loaded.{history-size}
+use Rattle.decision.specs.Answer.{isSome}
+use Rattle.answers.specs.declared.Stage.the-variants.{Ordered}
+use Rattle.answers.specs.declared.deciding.Outcome.{Outcome}
+use Rattle.answers.specs.Copies.{copied}
+use Rattle.answers.specs.Finding.{Finds}
+use Rattle.answers.specs.Settings.{polygraphRefusal}
+use Rattle.answers.specs.Stages.{holdsLog, claimsOrder, counted, isFresh}
+use Rattle.checker.specs.declared.Case.{Case}
+use Rattle.checker.specs.declared.Decision.{Decision}
+use Rattle.checker.specs.Cases.{contents, historyIn, orderIn, stageOf, loadedCase}
+use Rattle.checker.specs.Decisions.{deciding, refusedDecision}
+use Rattle.checker.specs.Preparing.{storing}
+use Rattle.checker.specs.Results.{orderRefused, tableLeft}
+use Rattle.checker.proofs.Chain.{load-holds, load-stage, ordered-number, order-left, table-left}
+use Rattle.checker.proofs.Holding.{case-holds}
+use Rattle.checker.proofs.Preparing.{held-finds, answer-refused, answer-found, found-decision}
+use Rattle.checker.proofs.Verdicts.{numbers-of}
+use Rattle.host.specs.Codes.{orderedCase, foundDecision, saidCode, saidOrder, saidTable}
+use Rattle.host.specs.Images.{filled, valueIn}
+use Rattle.host.proofs.Writing.{Written, order-short, both-written}
+
+module _ (log : List ℕ) (loads : loadNumber log ≡ 0) where
+  held : isFresh (stageOf (loadedCase log)) ≡ false
+  held = ap isFresh (load-stage log loads)
+
+  -- ---- what is found
+
+  module _ (e pruning places : ℕ) (t ks : List ℕ) (r : Outcome)
+      (finds : Finds (polygraphRefusal (historyOf log) e pruning places 32) (historyOf log) e pruning places t ks r) where
+    pub as-decided : foundDecision log r ≡ deciding (loadedCase log) e pruning places
+    as-decided =
+        found-decision (loadedCase log) e pruning places t ks r
+        (held-finds (loadedCase log) e pruning places t ks r held
+        (subst (λ b. Finds (polygraphRefusal (historyOf b) e pruning places 32) (historyOf b) e pruning places t ks r) (sym (load-holds log)) finds))
+
+    -- an order that is found has every number below T once
+    pub found-order : r .number ≡ 0 → r .found ≡ true → T (isOrder (transactionsIn log) (take (transactionsIn log) (r .order)))
+    unfolding isSome
+    found-order z f =
+        subst (λ o. T (isOrder (transactionsIn log) (take (transactionsIn log) o))) (sym (finds .order-is z)) (go (firstLegal h) refl (sym (finds .found-is z) ∙ f))
+      where
+        h : History
+        h = historyOf log
+
+        go : (x : Option (List ℕ)) → firstLegal h ≡ x → isSome x ≡ true → T (isOrder (transactionsIn log) (take (transactionsIn log) (orderNumbers x)))
+        go none is s = absurd (subst T (sym s) tt)
+        go (some o) is s =
+            let l : T (legal h o) = first-some h o is .0 in
+            subst (λ m. T (isOrder m (take m (orderNumbers (some o))))) (history-size log)
+            (subst (λ p. T (isOrder (size h) p)) (sym (numbers-of h o l)) (legal-order h o l))
+
+  -- ---- the case with an order
+
+  module _ (numbers : List ℕ) (orders : T (isOrder (transactionsIn log) (take (transactionsIn log) numbers))) where
+    abbrev c : Case
+    c = orderedCase log numbers
+
+    same-log : contents c ≡ log
+    unfolding storing
+    same-log = load-holds log
+
+    counts : stageOf c ≡ Ordered
+    unfolding stageOf storing counted claimsOrder
+    counts =
+        ap₂ (counted Ordered) (true-eq (holdsLog (loadedCase log .bytes) (loadedCase log .length)) (case-holds (loadedCase log) held))
+        (true-eq _ (subst (λ b. T (isOrder (transactionsIn b) (take (transactionsIn b) numbers))) (sym (load-holds log)) orders))
+
+    number-by : (places : ℕ) → orderRefused c places ≡ cond (ltb places (transactionsIn log)) 25 0
+    number-by places = ordered-number c counts places ∙ ap {B = ℕ} (λ b. cond (ltb places (transactionsIn b)) 25 0) same-log
+
+    table-by : tableLeft c (replicate 32 0) ≡ finalTable (historyOf log) (take (transactionsIn log) numbers)
+    unfolding writtenTable storing
+    table-by =
+        table-left c counts (replicate 32 0) (omega arith) ∙ append-nil (finalTable (historyIn c) (orderIn c))
+        ∙ ap (λ b. finalTable (historyOf b) (take (transactionsIn b) numbers)) same-log
+
+    module _ (order table : List ℕ) (room : 64 ≤ length table) (n : ℕ) (is : n ≡ transactionsIn log) where
+      pub no-room : length order < n → Written c order table 25 order table
+      no-room l =
+          order-short c order table 25
+          (sym (number-by (length order) ∙ ap {B = ℕ} (λ b. cond b 25 0) (lt-ltb (length order) (transactionsIn log) (omega (arith, is)))))
+          room (λ z. absurd (omega (arith, z)))
+
+      pub written : (order′ values table′ : List ℕ) → n ≤ length order → order′ ≡ copied n numbers order → values ≡ finalTable (historyOf log) (take n numbers)
+          → table′ ≡ filled (valueIn values) 32 table → Written c order table 0 order′ table′
+      unfolding writtenOrder storing
+      written order′ values table′ l o v t =
+          both-written c order table 0
+          (sym (number-by (length order) ∙ ap {B = ℕ} (λ b. cond b 25 0) (le-ltb (length order) (transactionsIn log) (omega (arith, is))))) room order′
+          (o ∙ ap (λ m. copied m numbers order) (is ∙ ap transactionsIn (sym same-log)) ∙ sym (order-left c counts order (omega (arith, is, ap transactionsIn same-log)))) table′ refl
+          (t ∙ ap (λ x. filled (valueIn x) 32 table) (v ∙ ap (λ m. finalTable (historyOf log) (take m numbers)) is ∙ sym table-by))
+
+-- ---- what is said of it
+
+-- the code of a decision, and what is left in the two lists
+abbrev pub Said : Decision → List ℕ → List ℕ → ℕ → List ℕ → List ℕ → Type 0
+Said d order table n order′ table′ = (n ≡ saidCode d (length order) (length table)) × ((order′ ≡ saidOrder d order (length table)) × (table′ ≡ saidTable d (length order) table))
+
+module _ (log : List ℕ) (r : Outcome) (order table : List ℕ) where
+  abbrev kept : Case
+  kept = storing (loadedCase log) (r .number) (r .found) (r .order)
+
+  pub said-refused : r .number ≢ 0 → Said (foundDecision log r) order table (r .number) order table
+  unfolding refusedDecision
+  said-refused f =
+      subst (λ (d : Decision). Said d order table (r .number) order table) (answer-refused kept (r .number) (r .found) (r .order) (r .left) f) (refl, (refl, refl))
+
+  pub said-none : r .number ≡ 0 → r .found ≡ false → Said (foundDecision log r) order table 255 order table
+  said-none z f =
+      subst (λ (d : Decision). Said d order table 255 order table) (answer-found kept (r .number) (r .found) (r .order) (r .left) false z f) (refl, (refl, refl))
+
+  pub said-order : (n : ℕ) (order′ table′ : List ℕ) → r .number ≡ 0 → r .found ≡ true → Written (orderedCase log (r .order)) order table n order′ table′
+      → Said (foundDecision log r) order table n order′ table′
+  said-order n order′ table′ z f w =
+      subst (λ (d : Decision). Said d order table n order′ table′) (answer-found kept (r .number) (r .found) (r .order) (r .left) true z f)
+      (subst (λ (k : Case). Written k order table n order′ table′) (ap₂ {C = Case} (λ (m : ℕ) (b : Bool). storing (loadedCase log) m b (r .order)) (sym z) (sym f)) w)
