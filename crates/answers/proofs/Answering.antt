@@ -80,6 +80,15 @@ setting-zero e pruning = go (ltb 2 e) (λ t. nltb→le 2 e t)
     go true f z = absurd (omega arith)
     go false f z = f tt
 
+pub pruning-zero : (e pruning : ℕ) → settingRefusal e pruning ≡ 0 → pruning ≤ 1
+unfolding settingRefusal
+pruning-zero e pruning = go (ltb 2 e) (ltb 1 pruning) (λ t. nltb→le 1 pruning t)
+  where
+    go : (a b : Bool) → (T (not b) → pruning ≤ 1) → _≡_ {A = ℕ} (cond a 12 (cond b 12 0)) 0 → pruning ≤ 1
+    go true b f z = absurd (omega arith)
+    go false true f z = absurd (omega arith)
+    go false false f z = f tt
+
 pub places-few : (n places words : ℕ) → placesRefusal n places words ≡ 0 → n ≤ 4096
 unfolding placesRefusal
 places-few n places words = go (ltb 4096 n) (λ t. nltb→le 4096 n t)

@@ -2,8 +2,8 @@
 use Prim.Native.Nat.{ℕ, _≤_}
 use native.Mathlib.Omega.{arith}
 use mathlib.Core.Path.{_≡_, refl, sym, ap, ap₂, subst, _∙_}
-use mathlib.Core.Logic.{_≢_}
-use mathlib.Core.Bool.{cond}
+use mathlib.Core.Logic.{_≢_, _⊎_, ⊎-elim}
+use mathlib.Core.Bool.{Bool, true, cond}
 use mathlib.Core.List.{List}
 use lib.ListN.{length}
 use borrow.Author.Tests.{eq-eqb, ne-eqb}
@@ -26,7 +26,7 @@ use Rattle.decision.specs.Answer.{SettledIn, firstAnswer}
 use Rattle.answers.specs.declared.deciding.Outcome.{Outcome}
 use Rattle.answers.specs.Settings.{settingRefusal, placesRefusal, polygraphRefusal}
 use Rattle.answers.specs.Finding.{refusedOutcome, Finds}
-use Rattle.answers.proofs.Answering.{setting-zero, places-few, places-zero}
+use Rattle.answers.proofs.Answering.{setting-zero, pruning-zero, places-few, places-zero}
 
 -- ---- pruning, by its number
 
@@ -57,9 +57,9 @@ rows-tidy b ok e rs is =
 
 -- ---- a refusal
 
-pub refused-finds : (h : History) (e pruning places : ℕ) (t ks : List ℕ) (number n : ℕ) → n ≢ 0 → n ≡ number → Finds number h e pruning places t ks (refusedOutcome n)
+pub refused-finds : (h : History) (e pruning places : ℕ) (listed : Bool) (t ks : List ℕ) (number n : ℕ) → n ≢ 0 → n ≡ number → Finds number h e pruning places listed t ks (refusedOutcome n)
 unfolding refusedOutcome
-refused-finds h e pruning places t ks number n f is = record {
+refused-finds h e pruning places listed t ks number n f is = record {
   number-is = is;
   found-is = λ z. absurd (f z);
   order-is = λ z. absurd (f z);
@@ -72,55 +72,59 @@ refused-finds h e pruning places t ks number n f is = record {
   none = λ z. refl;
 }
 
-module _ (h : History) (e pruning places : ℕ) (t ks : List ℕ) (number : ℕ) where
+module _ (h : History) (e pruning places : ℕ) (listed : Bool) (t ks : List ℕ) (number : ℕ) where
   abbrev whole-number : ℕ
   whole-number = polygraphRefusal h e pruning places 32
 
-  pub setting-finds : (r : Outcome) → number ≢ 0 → number ≡ settingRefusal e pruning → r ≡ refusedOutcome number → Finds (polygraphRefusal h e pruning places 32) h e pruning places t ks r
+  pub setting-finds : (r : Outcome) → number ≢ 0 → number ≡ settingRefusal e pruning → r ≡ refusedOutcome number → Finds (polygraphRefusal h e pruning places 32) h e pruning places listed t ks r
   setting-finds r f is q =
-      subst (Finds (polygraphRefusal h e pruning places 32) h e pruning places t ks) (sym q)
-      (refused-finds h e pruning places t ks whole-number number f (is ∙ sym (ap (λ b. cond b (placesRefusal (length (constraints h e)) places 32) (settingRefusal e pruning)) (ne-eqb (settingRefusal e pruning) 0 (λ z. f (is ∙ z))))))
+      subst (Finds (polygraphRefusal h e pruning places 32) h e pruning places listed t ks) (sym q)
+      (refused-finds h e pruning places listed t ks whole-number number f (is ∙ sym (ap (λ b. cond b (placesRefusal (length (constraints h e)) places 32) (settingRefusal e pruning)) (ne-eqb (settingRefusal e pruning) 0 (λ z. f (is ∙ z))))))
 
   -- the number where the setting is taken
   pub counted-number : (n : ℕ) → settingRefusal e pruning ≡ 0 → n ≡ length (constraints h e) → number ≡ placesRefusal n places 32 → number ≡ polygraphRefusal h e pruning places 32
   counted-number n z c is =
       is ∙ ap (λ k. placesRefusal k places 32) c ∙ sym (ap (λ b. cond b (placesRefusal (length (constraints h e)) places 32) (settingRefusal e pruning)) (eq-eqb (settingRefusal e pruning) 0 z))
 
-  pub places-finds : (n : ℕ) (r : Outcome) → settingRefusal e pruning ≡ 0 → n ≡ length (constraints h e) → number ≡ placesRefusal n places 32 → number ≢ 0 → r ≡ refusedOutcome number → Finds (polygraphRefusal h e pruning places 32) h e pruning places t ks r
-  places-finds n r z c is f q = subst (Finds (polygraphRefusal h e pruning places 32) h e pruning places t ks) (sym q) (refused-finds h e pruning places t ks whole-number number f (counted-number n z c is))
+  pub places-finds : (n : ℕ) (r : Outcome) → settingRefusal e pruning ≡ 0 → n ≡ length (constraints h e) → number ≡ placesRefusal n places 32 → number ≢ 0 → r ≡ refusedOutcome number → Finds (polygraphRefusal h e pruning places 32) h e pruning places listed t ks r
+  places-finds n r z c is f q = subst (Finds (polygraphRefusal h e pruning places 32) h e pruning places listed t ks) (sym q) (refused-finds h e pruning places listed t ks whole-number number f (counted-number n z c is))
 
--- ---- the answer
+-- ---- the answer: `used` is the pruning that was done
 
-module _ (h : History) (e pruning places : ℕ) (t ks ls rs : List ℕ) (n left : ℕ) (closed : List ℕ) (plan : Planned h e t ks rs n) (zero : settingRefusal e pruning ≡ 0) (room : placesRefusal n places 32 ≡ 0)
-    (within : left ≤ n) (kept : PrunedTo (settled pruning (record { known = rs; choices = itemsBy t ks n })) t ls left closed) where
+module _ (h : History) (e pruning places : ℕ) (listed : Bool) (used : ℕ) (same : (listed ≡ true → used ≡ pruning) × ((used ≡ pruning) ⊎ (used ≡ 0))) (t ks ls rs : List ℕ) (n left : ℕ) (closed : List ℕ) (plan : Planned h e t ks rs n)
+    (zero : settingRefusal e pruning ≡ 0) (room : placesRefusal n places 32 ≡ 0) (within : left ≤ n) (kept : PrunedTo (settled used (record { known = rs; choices = itemsBy t ks n })) t ls left closed) where
   few : n ≤ 4096
   few = places-few n places 32 room
 
-  settled-is : settled pruning (record { known = rs; choices = itemsBy t ks n }) ≡ polygraph h e pruning
+  settled-is : settled used (record { known = rs; choices = itemsBy t ks n }) ≡ polygraph h e used
   unfolding settled pruned polygraph
-  settled-is = ap₂ (λ (g : List ℕ) (xs : List Constraint). settled pruning (record { known = g; choices = xs })) (plan .rows-are) (plan .chosen-are .items-are few)
+  settled-is = ap₂ (λ (g : List ℕ) (xs : List Constraint). settled used (record { known = g; choices = xs })) (plan .rows-are) (plan .chosen-are .items-are few)
 
-  items : itemsBy t ls left ≡ polygraph h e pruning .choices
-  items = kept .choices-are ∙ ap (λ (p : Polygraph). p .choices) settled-is
+  used-items : itemsBy t ls left ≡ polygraph h e used .choices
+  used-items = kept .choices-are ∙ ap (λ (p : Polygraph). p .choices) settled-is
+
+  items : listed ≡ true → itemsBy t ls left ≡ polygraph h e pruning .choices
+  items l = used-items ∙ ap (λ (p : ℕ). polygraph h e p .choices) (same .0 l)
 
   pub settled-in : SettledIn h t ls left closed
   settled-in = record {
     encoding = e;
-    pruning = pruning;
+    pruning = used;
     low = let k = setting-zero e pruning zero in omega arith;
+    once = ⊎-elim (λ (u : used ≡ pruning). omega (arith, pruning-zero e pruning zero)) (λ (u : used ≡ 0). omega arith) (same .1);
     few = omega (arith, few);
-    items-are = items;
+    items-are = used-items;
     rows-are = kept .rows-are ∙ ap (λ (p : Polygraph). reach (p .known)) settled-is;
   }
 
-  pub answer-finds : (f : Found) → f ≡ firstAnswer h → Finds (polygraphRefusal h e pruning places 32) h e pruning places t ls (record { number = 0; found = f .found; order = f .order; count = n; left = left })
+  pub answer-finds : (f : Found) → f ≡ firstAnswer h → Finds (polygraphRefusal h e pruning places 32) h e pruning places listed t ls (record { number = 0; found = f .found; order = f .order; count = n; left = left })
   unfolding firstAnswer encodedCount
   answer-finds f is = record {
-    number-is = counted-number h e pruning places t ls 0 n zero (plan .chosen-are .count-is) (sym room);
+    number-is = counted-number h e pruning places listed t ls 0 n zero (plan .chosen-are .count-is) (sym room);
     found-is = λ z. ap (λ (x : Found). x .found) is;
     order-is = λ z. ap (λ (x : Found). x .order) is;
     count-is = λ z. plan .chosen-are .count-is;
-    left-is = λ z. sym (items-length t ls left) ∙ ap length items;
+    left-is = λ z l. sym (items-length t ls left) ∙ ap length (items l);
     items-are = λ z. items;
     few = few;
     fits = places-zero n places 32 room .0;

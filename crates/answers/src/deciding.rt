@@ -1,5 +1,7 @@
 // What Decide finds over the bytes of a log that Load takes, without a list of constraints: one way for the call on the case and for the functions for C.
 ghost use mathlib.Core.Path.{_≡_};
+ghost use mathlib.Core.Bool.{true};
+ghost use mathlib.Core.Logic.{_⊎_};
 ghost use mathlib.Core.List.{List};
 ghost use Prim.Native.Nat.{ℕ, _≤_};
 ghost use Rattle.model.specs.Log.{loadNumber, historyOf};
@@ -16,7 +18,7 @@ use crate::settings::setting_refusal;
 use listing::PLACES;
 use listing::WORDS;
 
-// The refusal or 0; whether there is an order, and its numbers; the counts of constraints before pruning and left.
+// The refusal or 0; whether there is an order, and its numbers; the count of constraints before pruning and, where a list is to be written, of those left.
 pub struct Outcome {
     pub number: u8,
     pub found: bool,
@@ -56,31 +58,43 @@ fn settle(
     n
 }
 
-// What Decide finds for a list of so many places. The tables and the candidates' numbers are lent: the constraints left stand in them.
+// The pruning that the search starts from. Where the known edges have a cycle there is no order, whatever pruning leaves: it is then done only for a list.
+fn pruning_needed(pruning: u8, listed: bool, closed: [u32; 32]) -> u8
+    ensures { λ r. ⌜ (listed ≡ true → r ≡ pruning) × ((r ≡ pruning) ⊎ (r ≡ 0)) ⌝ }
+{
+    if listed {
+        return pruning;
+    }
+    if graph::cyclic(closed) { 0 } else { pruning }
+}
+
+// What Decide finds for a list of so many places. The tables and the candidates' numbers are lent: where a list is to be written, the constraints left stand in them.
 pub fn decided(
     log: &[u8],
     encoding: u8,
     pruning: u8,
     places: usize,
+    listed: bool,
     tables: &mut [u32; WORDS],
     chosen: &mut [u16; PLACES],
 ) -> Outcome
     requires { ⌜ (loadNumber (now log) ≡ 0) × Space (now tables) (now chosen) ⌝ }
-    ensures { λ r. ⌜ Finds (polygraphRefusal (historyOf (now (log .entry))) encoding pruning places 32) (historyOf (now (log .entry))) encoding pruning places (now (tables .exit)) (now (chosen .exit)) r ⌝ }
+    ensures { λ r. ⌜ Finds (polygraphRefusal (historyOf (now (log .entry))) encoding pruning places 32) (historyOf (now (log .entry))) encoding pruning places listed (now (tables .exit)) (now (chosen .exit)) r ⌝ }
 {
     let setting = setting_refusal(encoding, pruning);
     if setting != 0 {
         return refused(setting);
     }
-    let plan = encoding::prepare(log, encoding, tables, chosen);
-    let count = plan.count;
+    let known = encoding::prepare(log, encoding, tables, chosen);
+    let count = known.count;
     let number = places_refusal(count, places, 32);
     if number != 0 {
         return refused(number);
     }
-    let rows = plan.rows;
+    let rows = known.rows;
     let mut closed = graph::closure(rows);
-    let left = settle(&mut closed, tables, chosen, count, pruning);
+    let used = pruning_needed(pruning, listed, closed);
+    let left = settle(&mut closed, tables, chosen, count, used);
     let f = decision::first_settled(log, tables, chosen, left, closed);
     let found = f.found;
     let order = f.order;

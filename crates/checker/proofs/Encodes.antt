@@ -54,15 +54,15 @@ module _ (c : Case) (e pruning places words : ℕ) where
   pub plans-setting : (r : Planning) → isFresh (stageOf c) ≡ false → settingRefusal e pruning ≢ 0 → r .number ≡ settingRefusal e pruning → Plans c e pruning places words r
   plans-setting r p ne n = refused r (n ∙ sym (refusal-is false false p (ne-eqb (settingRefusal e pruning) 0 ne))) (λ z. ne (sym n ∙ z))
 
-  pub plans-counted : (r : Planning) → isFresh (stageOf c) ≡ false → settingRefusal e pruning ≡ 0 → Planned (historyIn c) e (r .tables) (r .chosen) (r .rows) (r .count) → r .number ≡ placesRefusal (r .count) places words → Plans c e pruning places words r
+  pub plans-counted : (r : Planning) → isFresh (stageOf c) ≡ false → settingRefusal e pruning ≡ 0 → Planned (historyIn c) e (r .plan .tables) (r .plan .chosen) (r .rows) (r .plan .count) → r .number ≡ placesRefusal (r .plan .count) places words → Plans c e pruning places words r
   plans-counted r p z plan n =
       let is : r .number ≡ encodeRefusal c e pruning places words =
       n ∙ ap (λ (k : ℕ). placesRefusal k places words) (plan .chosen-are .count-is) ∙ sym (refusal-is false true p (eq-eqb (settingRefusal e pruning) 0 z)) in
       record {
         number-is = is;
         plan = λ _. plan;
-        ready = λ q. record { few = places-few (r .count) places words (sym n ∙ q); fits = places-zero (r .count) places words (sym n ∙ q) .0 };
-        room = λ q. places-zero (r .count) places words (sym n ∙ q) .1;
+        ready = λ q. record { few = places-few (r .plan .count) places words (sym n ∙ q); fits = places-zero (r .plan .count) places words (sym n ∙ q) .0 };
+        room = λ q. places-zero (r .plan .count) places words (sym n ∙ q) .1;
       }
 
 -- ---- the call

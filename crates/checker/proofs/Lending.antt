@@ -10,7 +10,7 @@ use Rattle.walk.proofs.Lending.{Answer, through}
 use Rattle.walk.proofs.Slices.{lent, counted}
 use denote.Laws.{Is}
 use denote.Struct.Laws as LL
-use mathlib.Core.Bool.{Bool}
+use mathlib.Core.Bool.{Bool, true}
 use mathlib.Core.List.{map-id}
 use mathlib.Core.Path.{subst}
 use lib.ListN.{length, replicate, drop as dropL}
@@ -18,7 +18,7 @@ use Rattle.model.specs.declared.Constraint.{Constraint}
 use Rattle.model.specs.Lent.{noConstraint}
 use Rattle.graph.proofs.Constraints.{R}
 use Rattle.listing.specs.Candidates.{itemsBy}
-use Rattle.listing.proofs.Data.{tablesK, placesK, Lent₂}
+use Rattle.listing.proofs.Data.{Lent₂}
 use Rattle.encoding.proofs.write_left as write-left
 use Rattle.encoding.proofs.write_left.Symbol.{name as #encoding·write-left}
 use Rattle.answers.specs.Finding.{Finds}
@@ -27,7 +27,7 @@ use Rattle.checker.specs.declared.deciding.Prepared.{Prepared}
 use Rattle.checker.specs.Cases.{historyIn}
 use Rattle.checker.specs.Decisions.{decideRefusal}
 use Rattle.checker.specs.Preparing.{outcomeIn, storing, answering}
-use Rattle.checker.proofs.Data.{caseK}
+use Rattle.checker.proofs.Data.{caseK, PlanOk, of-plan}
 use Rattle.checker.proofs.Decision as D
 use Rattle.checker.proofs.Decision.Laws as D′
 use Rattle.checker.proofs.deciding.Prepared as P
@@ -48,29 +48,25 @@ preparedK = of-declared P.the-type P′.the-laws P′.lowers P′.the-plain P′
 -- what holds of a preparation that a call returned
 pub record PreparedOk (w : Prepared) : Type 0 where
   pub number-fits : w .number < 2 ^ 8
+  pub plan-ok : PlanOk (w .plan)
   pub found-ok : Good boolK (w .found)
   pub order-ok : Good (bytesK 32) (w .order)
-  pub count-fits : w .count < 2 ^ 64
   pub left-fits : w .left < 2 ^ 64
-  pub tables-ok : Good tablesK (w .tables)
-  pub chosen-ok : Good placesK (w .chosen)
 
 pub of-prepared : (w : Prepared) (v : Val) → Is (preparedK .row) w (v ∷ []) → PreparedOk w
 of-prepared w v is =
     let x = LL.owed P.the-type P′.the-laws w (v ∷ []) is in
     record {
       number-fits = x .0 .1;
-      found-ok = x .1 .0;
-      order-ok = subst (Good (bytesK 32)) (map-id (w .order)) (x .1 .1 .0);
-      count-fits = x .1 .1 .1 .0 .1;
+      plan-ok = of-plan (w .plan) _ (x .1 .0);
+      found-ok = x .1 .1 .0;
+      order-ok = subst (Good (bytesK 32)) (map-id (w .order)) (x .1 .1 .1 .0);
       left-fits = x .1 .1 .1 .1 .0 .1;
-      tables-ok = subst (Good tablesK) (map-id (w .tables)) (x .1 .1 .1 .1 .1 .0);
-      chosen-ok = subst (Good placesK) (map-id (w .chosen)) (x .1 .1 .1 .1 .1 .1 .0);
     }
 
 -- what `prepare` says
 abbrev pub FoundFor : Case → ℕ → ℕ → ℕ → Prepared → Type 0
-FoundFor c e pruning places p = Finds (decideRefusal c e pruning places) (historyIn c) e pruning places (p .tables) (p .chosen) (outcomeIn p)
+FoundFor c e pruning places p = Finds (decideRefusal c e pruning places) (historyIn c) e pruning places true (p .plan .tables) (p .plan .chosen) (outcomeIn p)
 
 -- what `write_left` leaves
 abbrev pub Wrote : List ℕ → List ℕ → ℕ → ℕ → List Constraint → List Constraint → Type 0

@@ -19,12 +19,13 @@ use Rattle.answers.specs.Numbers.{verdictNumber}
 use Rattle.answers.specs.Settings.{polygraphRefusal}
 use Rattle.answers.specs.Stages.{isFresh}
 use Rattle.answers.specs.Finding.{Finds, refusedOutcome}
+use Rattle.answers.specs.declared.Stage.{Stage}
 use Rattle.answers.specs.declared.deciding.Outcome.{Outcome}
 use Rattle.answers.proofs.Finding.{refused-finds}
 use Rattle.checker.specs.declared.Case.{Case}
 use Rattle.checker.specs.declared.Decision.{Decision}
 use Rattle.checker.specs.declared.deciding.Prepared.{Prepared}
-use Rattle.checker.specs.Cases.{historyIn, stageOf}
+use Rattle.checker.specs.Cases.{historyIn, stageOf, answeredCase}
 use Rattle.checker.specs.Encodings.{encodeRefusal}
 use Rattle.checker.specs.Decisions.{decideRefusal, decidedCase, decided, refusedDecision, deciding, listAfterDecide, Answers, Decides}
 use Rattle.checker.specs.Preparing.{outcomeIn, stageBy, verdictBy, storing, answering, foundBy}
@@ -32,33 +33,33 @@ use Rattle.checker.proofs.Verdicts.{deciding-answers, deciding-number}
 
 -- ---- what is found, by the first test
 
-module _ (c : Case) (e pruning places : ℕ) (t ks : List ℕ) (r : Outcome) where
-  pub fresh-finds : isFresh (stageOf c) ≡ true → r ≡ refusedOutcome 22 → Finds (decideRefusal c e pruning places) (historyIn c) e pruning places t ks r
+module _ (c : Case) (e pruning places : ℕ) (listed : Bool) (t ks : List ℕ) (r : Outcome) where
+  pub fresh-finds : isFresh (stageOf c) ≡ true → r ≡ refusedOutcome 22 → Finds (decideRefusal c e pruning places) (historyIn c) e pruning places listed t ks r
   unfolding encodeRefusal
   fresh-finds f q =
-      subst (Finds (decideRefusal c e pruning places) (historyIn c) e pruning places t ks) (sym q)
-      (refused-finds (historyIn c) e pruning places t ks (decideRefusal c e pruning places) 22 (λ z. omega arith)
+      subst (Finds (decideRefusal c e pruning places) (historyIn c) e pruning places listed t ks) (sym q)
+      (refused-finds (historyIn c) e pruning places listed t ks (decideRefusal c e pruning places) 22 (λ z. omega arith)
       (sym (ap (λ b. cond b 22 (polygraphRefusal (historyIn c) e pruning places 32)) f)))
 
-  pub held-finds : isFresh (stageOf c) ≡ false → Finds (polygraphRefusal (historyIn c) e pruning places 32) (historyIn c) e pruning places t ks r
-      → Finds (decideRefusal c e pruning places) (historyIn c) e pruning places t ks r
+  pub held-finds : isFresh (stageOf c) ≡ false → Finds (polygraphRefusal (historyIn c) e pruning places 32) (historyIn c) e pruning places listed t ks r
+      → Finds (decideRefusal c e pruning places) (historyIn c) e pruning places listed t ks r
   unfolding encodeRefusal
   held-finds f x =
-      subst (λ n. Finds n (historyIn c) e pruning places t ks r) (sym (ap (λ b. cond b 22 (polygraphRefusal (historyIn c) e pruning places 32)) f)) x
+      subst (λ n. Finds n (historyIn c) e pruning places listed t ks r) (sym (ap (λ b. cond b 22 (polygraphRefusal (historyIn c) e pruning places 32)) f)) x
 
 -- ---- the case and the answer, by the tests
 
 module _ (c : Case) (number : ℕ) (found : Bool) (order : List ℕ) where
-  abbrev stored : Bool → Case
-  stored b = record { stage = stageBy b; bytes = c .bytes; length = c .length; order = order }
+  abbrev stored : Stage → Case
+  stored s = answeredCase c s order
 
   pub stored-refused : number ≢ 0 → c ≡ storing c number found order
   unfolding storing
-  stored-refused f = sym (ap (λ b. cond b (stored found) c) (ne-eqb number 0 f))
+  stored-refused f = sym (ap (λ b. cond b (stored (stageBy found)) c) (ne-eqb number 0 f))
 
-  pub stored-found : (b : Bool) → number ≡ 0 → found ≡ b → record { stage = stageBy b; bytes = c .bytes; length = c .length; order = order } ≡ storing c number found order
+  pub stored-found : (s : Stage) → s ≡ stageBy found → number ≡ 0 → stored s ≡ storing c number found order
   unfolding storing
-  stored-found b z e = ap stored (sym e) ∙ sym (ap (λ b. cond b (stored found) c) (eq-eqb number 0 z))
+  stored-found s e z = ap stored e ∙ sym (ap (λ b. cond b (stored (stageBy found)) c) (eq-eqb number 0 z))
 
   module _ (left : ℕ) where
     abbrev said : Bool → Decision
@@ -81,8 +82,9 @@ decided-by c (some o) left = refl
 
 -- ---- what Decide gives, by what was found
 
-module _ (c : Case) (e pruning places : ℕ) (t ks : List ℕ) (r : Outcome)
-    (finds : Finds (decideRefusal c e pruning places) (historyIn c) e pruning places t ks r) where
+module _ (c : Case) (e pruning places : ℕ) (listed : Bool) (t ks : List ℕ) (r : Outcome)
+    (finds : Finds (decideRefusal c e pruning places) (historyIn c) e pruning places listed t ks r)
+    (left : ℕ) (counts : r .number ≡ 0 → left ≡ encodedCount (historyIn c) e pruning) where
   abbrev refusal : ℕ
   refusal = decideRefusal c e pruning places
 
@@ -90,20 +92,20 @@ module _ (c : Case) (e pruning places : ℕ) (t ks : List ℕ) (r : Outcome)
   first = firstLegal (historyIn c)
 
   abbrev told : ℕ → Decision
-  told n = foundBy c n (r .found) (r .order) (r .left)
+  told n = foundBy c n (r .found) (r .order) left
 
   told-refused : refusal ≢ 0 → told refusal ≡ refusedDecision c refusal
   told-refused f =
-      sym (answer-refused (storing c refusal (r .found) (r .order)) refusal (r .found) (r .order) (r .left) f)
+      sym (answer-refused (storing c refusal (r .found) (r .order)) refusal (r .found) (r .order) left f)
       ∙ ap (λ (k : Case). refusedDecision k refusal) (sym (stored-refused c refusal (r .found) (r .order) f))
 
   told-found : refusal ≡ 0 → told refusal ≡ decided c first (encodedCount (historyIn c) e pruning)
   told-found z =
       let q : r .number ≡ 0 = finds .number-is ∙ z in
-      ap told z ∙ ap₂ (λ b o. foundBy c 0 b o (r .left)) (finds .found-is q) (finds .order-is q) ∙ ap (foundBy c 0 (isSome first) (orderNumbers first)) (finds .left-is q)
+      ap told z ∙ ap₂ (λ b o. foundBy c 0 b o left) (finds .found-is q) (finds .order-is q) ∙ ap (foundBy c 0 (isSome first) (orderNumbers first)) (counts q)
       ∙ decided-by c first (encodedCount (historyIn c) e pruning)
 
-  pub found-decision : foundBy c (r .number) (r .found) (r .order) (r .left) ≡ deciding c e pruning places
+  pub found-decision : foundBy c (r .number) (r .found) (r .order) left ≡ deciding c e pruning places
   unfolding deciding
   found-decision =
       ap told (finds .number-is)
@@ -115,8 +117,8 @@ module _ (c : Case) (e pruning places : ℕ) (t ks : List ℕ) (r : Outcome)
 -- ---- what Decide leaves, with that
 
 module _ (c : Case) (e pruning : ℕ) (ys zs : List Constraint) (p : Prepared)
-    (found : Finds (decideRefusal c e pruning (length ys)) (historyIn c) e pruning (length ys) (p .tables) (p .chosen) (outcomeIn p))
-    (wrote : zs ≡ itemsBy (p .tables) (p .chosen) (p .left) ++ (replicate (p .count - p .left) noConstraint ++ drop (p .count) ys)) where
+    (found : Finds (decideRefusal c e pruning (length ys)) (historyIn c) e pruning (length ys) true (p .plan .tables) (p .plan .chosen) (outcomeIn p))
+    (wrote : zs ≡ itemsBy (p .plan .tables) (p .plan .chosen) (p .left) ++ (replicate (p .plan .count - p .left) noConstraint ++ drop (p .plan .count) ys)) where
   abbrev number : ℕ
   number = decideRefusal c e pruning (length ys)
 
@@ -128,16 +130,16 @@ module _ (c : Case) (e pruning : ℕ) (ys zs : List Constraint) (p : Prepared)
   unfolding encodedList encodedCount
   wrote-it z =
       let q : p .number ≡ 0 = found .number-is ∙ z in
-      wrote ∙ ap₂ (λ (xs rest : List Constraint). xs ++ rest) (found .items-are q)
-      (ap₂ (λ (n m : ℕ). replicate (n - m) noConstraint ++ drop n ys) (found .count-is q) (found .left-is q))
+      wrote ∙ ap₂ (λ (xs rest : List Constraint). xs ++ rest) (found .items-are q refl)
+      (ap₂ (λ (n m : ℕ). replicate (n - m) noConstraint ++ drop n ys) (found .count-is q) (found .left-is q refl))
 
   -- and where it is, nothing
   wrote-none : number ≢ 0 → zs ≡ ys
   unfolding itemsBy refusedOutcome
   wrote-none f =
-      let none : p .count ≡ 0 = ap (λ (o : Outcome). o .count) (found .none (λ z. f (sym (found .number-is) ∙ z))) in
+      let none : p .plan .count ≡ 0 = ap (λ (o : Outcome). o .count) (found .none (λ z. f (sym (found .number-is) ∙ z))) in
       let left : p .left ≡ 0 = omega (arith, found .within) in
-      wrote ∙ ap₂ (λ (m n : ℕ). itemsBy (p .tables) (p .chosen) m ++ (replicate (n - m) noConstraint ++ drop n ys)) left none
+      wrote ∙ ap₂ (λ (m n : ℕ). itemsBy (p .plan .tables) (p .plan .chosen) m ++ (replicate (n - m) noConstraint ++ drop n ys)) left none
 
   pub list-left : zs ≡ listAfterDecide c e pruning ys
   unfolding listAfterDecide
@@ -147,7 +149,7 @@ module _ (c : Case) (e pruning : ℕ) (ys zs : List Constraint) (p : Prepared)
 
   pub decides : (d : Decision) → d ≡ foundBy c (p .number) (p .found) (p .order) (p .left) → Decides c e pruning ys d zs
   decides d q =
-      let is = q ∙ found-decision c e pruning (length ys) (p .tables) (p .chosen) (outcomeIn p) found in
+      let is = q ∙ found-decision c e pruning (length ys) true (p .plan .tables) (p .plan .chosen) (outcomeIn p) found (p .left) (λ z. found .left-is z refl) in
       record {
         result = is;
         number = ap (λ (x : Decision). verdictNumber (x .verdict)) is ∙ deciding-number c e pruning (length ys);

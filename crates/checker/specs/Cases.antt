@@ -33,6 +33,10 @@ freshCase = record { stage = Fresh; bytes = replicate 1156 0; length = 0; order 
 unfoldable pub inRoom : List ℕ → List ℕ
 inRoom b = b ++ replicate (1156 - length b) 0
 
+-- a case with its log as it is, at another stage and with another order
+abbrev pub answeredCase : Case → Stage → List ℕ → Case
+answeredCase c stage order = record { stage = stage; bytes = c .bytes; length = c .length; order = order }
+
 -- the case that Load leaves
 unfoldable pub loadedCase : List ℕ → Case
 loadedCase b = record { stage = Loaded; bytes = inRoom b; length = length b; order = replicate 32 0 }

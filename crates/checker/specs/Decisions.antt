@@ -17,7 +17,7 @@ use Rattle.answers.specs.declared.Verdict.{Verdict}
 use Rattle.answers.specs.declared.Verdict.the-variants.{Order, NoOrder as NoOrderSaid, Refused}
 use Rattle.checker.specs.declared.Case.{Case}
 use Rattle.checker.specs.declared.Decision.{Decision}
-use Rattle.checker.specs.Cases.{historyIn}
+use Rattle.checker.specs.Cases.{historyIn, answeredCase}
 use Rattle.checker.specs.Encodings.{encodeRefusal}
 use Rattle.answers.specs.Numbers.{verdictNumber}
 
@@ -36,7 +36,7 @@ stageFor (some o) = Ordered
 
 -- the case with an answer stored: its log as it was, the order as 32 numbers
 unfoldable pub decidedCase : Case → Option (List ℕ) → Case
-decidedCase c answer = record { stage = stageFor answer; bytes = c .bytes; length = c .length; order = orderNumbers answer }
+decidedCase c answer = answeredCase c (stageFor answer) (orderNumbers answer)
 
 -- the answer where Decide is not refused: the first legal order, or 'no order', with the count that Encode gives
 unfoldable pub decided : Case → Option (List ℕ) → ℕ → Decision

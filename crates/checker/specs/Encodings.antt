@@ -45,6 +45,6 @@ pub record Encodes (c : Case) (e pruning : ℕ) (ys : List Constraint) (ws : Lis
 -- what is decided before anything is written
 pub record Plans (c : Case) (e pruning places words : ℕ) (r : Planning) : Type 0 where
   pub number-is : r .number ≡ encodeRefusal c e pruning places words
-  pub plan : r .number ≡ 0 → Planned (historyIn c) e (r .tables) (r .chosen) (r .rows) (r .count)
-  pub ready : r .number ≡ 0 → Writable (r .count) places
+  pub plan : r .number ≡ 0 → Planned (historyIn c) e (r .plan .tables) (r .plan .chosen) (r .rows) (r .plan .count)
+  pub ready : r .number ≡ 0 → Writable (r .plan .count) places
   pub room : r .number ≡ 0 → 32 ≤ words

@@ -11,11 +11,12 @@ use Rattle.answers.specs.declared.deciding.Outcome.{Outcome}
 use Rattle.checker.specs.declared.Case.{Case}
 use Rattle.checker.specs.declared.Decision.{Decision}
 use Rattle.checker.specs.declared.deciding.Prepared.{Prepared}
+use Rattle.checker.specs.Cases.{answeredCase}
 use Rattle.checker.specs.Decisions.{refusedDecision}
 
 -- what was found, of what Decide has before it writes
 abbrev pub outcomeIn : Prepared → Outcome
-outcomeIn p = record { number = p .number; found = p .found; order = p .order; count = p .count; left = p .left }
+outcomeIn p = record { number = p .number; found = p .found; order = p .order; count = p .plan .count; left = p .left }
 
 -- the stage and the verdict, by whether an order was found
 abbrev pub stageBy : Bool → Stage
@@ -28,7 +29,7 @@ verdictBy false = NoOrderSaid
 
 -- the case with what was found, or as it was beside a refusal
 unfoldable pub storing : Case → ℕ → Bool → List ℕ → Case
-storing c number found order = cond (eqb number 0) (record { stage = stageBy found; bytes = c .bytes; length = c .length; order = order }) c
+storing c number found order = cond (eqb number 0) (answeredCase c (stageBy found) order) c
 
 -- the answer with that case, or the refusal
 unfoldable pub answering : Case → ℕ → Bool → List ℕ → ℕ → Decision

@@ -1,28 +1,29 @@
 // The parts of Decide that work on values: what is found out before anything is written, the case with the answer stored, and the answer.
 ghost use mathlib.Core.Path.{_≡_};
+ghost use mathlib.Core.Bool.{true};
 ghost use Rattle.answers.specs.Finding.{Finds, refusedOutcome};
 ghost use Rattle.checker.specs.Cases.{historyIn};
 ghost use Rattle.checker.specs.Decisions.{decideRefusal};
-ghost use Rattle.checker.specs.Preparing.{outcomeIn, storing, answering};
+ghost use Rattle.checker.specs.Preparing.{outcomeIn, stageBy, storing, answering};
 use crate::Case;
 use crate::Decision;
 use crate::Stage;
 use crate::Verdict;
 use crate::held::is_fresh;
+use crate::plans::Plan;
+use crate::plans::none;
 use answers::deciding::decided;
 use listing::PLACES;
 use listing::WORDS;
 
-// What is found out before Decide writes anything: the refusal or 0; whether there is an order, and its numbers; the counts of constraints before
-// pruning and left; and the tables and candidates' numbers, of which the first are the constraints left. Beside a refusal there is nothing.
+// What is found out before Decide writes anything: the refusal or 0; the plan, of whose numbers the first are the constraints left; whether there is an
+// order, and its numbers; and how many constraints are left. Beside a refusal there is nothing to write.
 pub(crate) struct Prepared {
     pub number: u8,
+    pub plan: Plan,
     pub found: bool,
     pub order: [u8; 32],
-    pub count: usize,
     pub left: usize,
-    pub tables: [u32; WORDS],
-    pub chosen: [u16; PLACES],
 }
 
 // A refusal, with nothing to write.
@@ -31,18 +32,16 @@ fn nothing(number: u8) -> Prepared
 {
     Prepared {
         number,
+        plan: none(),
         found: false,
         order: [0; 32],
-        count: 0,
         left: 0,
-        tables: [0; WORDS],
-        chosen: [0; PLACES],
     }
 }
 
 // What is found out for a list of so many places: 22, then what the log's bytes give.
 pub(crate) fn prepare(c: Case, encoding: u8, pruning: u8, places: usize) -> Prepared
-    ensures { λ r. ⌜ Finds (decideRefusal c encoding pruning places) (historyIn c) encoding pruning places (r .tables) (r .chosen) (outcomeIn r) ⌝ }
+    ensures { λ r. ⌜ Finds (decideRefusal c encoding pruning places) (historyIn c) encoding pruning places true (r .plan .tables) (r .plan .chosen) (outcomeIn r) ⌝ }
 {
     if is_fresh(c) {
         return nothing(22);
@@ -56,18 +55,32 @@ pub(crate) fn prepare(c: Case, encoding: u8, pruning: u8, places: usize) -> Prep
         encoding,
         pruning,
         places,
+        true,
         &mut tables,
         &mut chosen,
     );
     let order = o.order;
     Prepared {
         number: o.number,
+        plan: Plan {
+            tables,
+            count: o.count,
+            chosen,
+        },
         found: o.found,
         order,
-        count: o.count,
         left: o.left,
-        tables,
-        chosen,
+    }
+}
+
+// The stage after an answer.
+fn stage_by(found: bool) -> Stage
+    ensures { λ r. ⌜ r ≡ stageBy found ⌝ }
+{
+    if found {
+        Stage::Ordered
+    } else {
+        Stage::NoOrder
     }
 }
 
@@ -79,19 +92,10 @@ pub(crate) fn stored(c: Case, number: u8, found: bool, order: [u8; 32]) -> Case
         return c;
     }
     let bytes = c.bytes;
-    let length = c.length;
-    if found {
-        return Case {
-            stage: Stage::Ordered,
-            bytes,
-            length,
-            order,
-        };
-    }
     Case {
-        stage: Stage::NoOrder,
+        stage: stage_by(found),
         bytes,
-        length,
+        length: c.length,
         order,
     }
 }

@@ -17,6 +17,7 @@ use model::Constraint;
 mod deciding;
 mod held;
 mod judging;
+mod plans;
 mod polygraphs;
 mod results;
 
@@ -100,9 +101,9 @@ impl Case {
         if p.number != 0 {
             return polygraphs::answer(self, p.number, 0);
         }
-        let tables = p.tables;
-        let chosen = p.chosen;
-        let r = encoding::write(&tables, &chosen, p.rows, p.count, pruning, list);
+        let tables = p.plan.tables;
+        let chosen = p.plan.chosen;
+        let r = encoding::write(&tables, &chosen, p.rows, p.plan.count, pruning, list);
         answers::copies::copy_rows(r.rows, rows);
         polygraphs::answer(self, 0, r.left)
     }
@@ -112,9 +113,9 @@ impl Case {
         ensures { λ r. ⌜ Decides self encoding pruning (now (list .entry)) r (now (list .exit)) ⌝ }
     {
         let p = deciding::prepare(self, encoding, pruning, list.len());
-        let tables = p.tables;
-        let chosen = p.chosen;
-        encoding::write_left(&tables, &chosen, p.left, p.count, list);
+        let tables = p.plan.tables;
+        let chosen = p.plan.chosen;
+        encoding::write_left(&tables, &chosen, p.left, p.plan.count, list);
         self = deciding::stored(self, p.number, p.found, p.order);
         deciding::answer(self, p.number, p.found, p.order, p.left)
     }

@@ -6,19 +6,18 @@ use crate::Case;
 use crate::Encoding;
 use crate::Reply;
 use crate::held::is_fresh;
+use crate::plans::Plan;
+use crate::plans::none;
 use answers::settings::places_refusal;
 use answers::settings::setting_refusal;
 use listing::PLACES;
 use listing::WORDS;
 
-// What Encode does: the number with which it refuses, or 0 and the plan of the polygraph: the tables and the numbers of its constraints, its known edges
-// before pruning, and the count of its constraints before pruning.
+// What Encode does: the number with which it refuses, or 0 and the plan of the polygraph, with its known edges before pruning.
 pub(crate) struct Planning {
     pub number: u8,
-    pub tables: [u32; WORDS],
-    pub chosen: [u16; PLACES],
+    pub plan: Plan,
     pub rows: [u32; 32],
-    pub count: usize,
 }
 
 // A refusal before the constraints are counted.
@@ -27,10 +26,8 @@ fn unplanned(number: u8) -> Planning
 {
     Planning {
         number,
-        tables: [0; WORDS],
-        chosen: [0; PLACES],
+        plan: none(),
         rows: [0; 32],
-        count: 0,
     }
 }
 
@@ -49,16 +46,18 @@ pub(crate) fn planned(c: Case, encoding: u8, pruning: u8, places: usize, words: 
     let length = c.length;
     let mut tables = [0u32; WORDS];
     let mut chosen = [0u16; PLACES];
-    let p = encoding::prepare(&bytes[..length], encoding, &mut tables, &mut chosen);
-    let rows = p.rows;
-    let count = p.count;
+    let known = encoding::prepare(&bytes[..length], encoding, &mut tables, &mut chosen);
+    let rows = known.rows;
+    let count = known.count;
     let number = places_refusal(count, places, words);
     Planning {
         number,
-        tables,
-        chosen,
+        plan: Plan {
+            tables,
+            count,
+            chosen,
+        },
         rows,
-        count,
     }
 }
 

@@ -5,21 +5,60 @@ use mathlib.Core.Path.{_≡_, refl, sym, ap, ap₂, subst, _∙_}
 use mathlib.Core.Bool.{Bool, true, false, cond}
 use mathlib.Core.Option.{none, some}
 use mathlib.Core.List.{List}
-use lib.ListN.{take}
-use Rattle.model.specs.History.{History, size}
+use lib.Dec.{T}
+use lib.ListN.{take, replicate}
+use Rattle.model.specs.History.{History, size, legal}
 use Rattle.model.specs.Log.{transactionsIn, loadNumber, historyOf}
 use Rattle.model.specs.Polygraph.{Polygraph, reach, polygraph}
 use Rattle.model.specs.Search.{firstLegal}
 use Rattle.model.specs.Lent.{orderNumbers}
+use Rattle.model.specs.RowWords.{Tidy, cyclic}
+use Rattle.model.proofs.Basics.{clash}
+use Rattle.model.proofs.First.{first-missing}
 use Rattle.model.proofs.Loaded.{loadable-log, history-size}
+use Rattle.model.proofs.Pruning.{legal-iff, polygraph-sound, way-forward}
+use Rattle.model.proofs.Reach.{within-tidy}
+use Rattle.model.proofs.Sides.{cyclic-in}
+use Rattle.graph.proofs.Rows.{reach-idem}
 use Rattle.listing.specs.Candidates.{itemsBy}
 use Rattle.search.specs.Constraints.{listOf}
 use Rattle.search.specs.Orders.{Asked, Answered}
+use Rattle.search.specs.Steps.{PartialOrder}
 use Rattle.search.specs.declared.order.Found.{Found}
 use Rattle.search.proofs.Answer.{asked-of, answer-first}
-use Rattle.search.proofs.Firsts.{closed-closed, closed-asked, closed-answered}
+use Rattle.search.proofs.Steps.{is-true, is-false}
+use Rattle.search.proofs.Firsts.{closed-asked, closed-answered}
 use Rattle.decision.specs.Words.{WordsOf}
 use Rattle.decision.specs.Answer.{SettledIn, isSome, firstAnswer}
+
+-- ---- known edges with a cycle, and without one
+
+module _ (b : List ℕ) (ok : loadNumber b ≡ 0) (ts ks : List ℕ) (n : ℕ) (closed : List ℕ) (settled : SettledIn (historyOf b) ts ks n closed) (r : Bool) (is : (g : List ℕ) → closed ≡ reach g → r ≡ cyclic g) where
+  abbrev h₀ : History
+  h₀ = historyOf b
+
+  abbrev known : List ℕ
+  known = polygraph h₀ (settled .encoding) (settled .pruning) .known
+
+  tidy : Tidy known
+  tidy = let l = loadable-log b ok in within-tidy known (size h₀) (l .few) (polygraph-sound h₀ l (settled .encoding) (settled .pruning) .0)
+
+  pub settled-partial : r ≡ false → PartialOrder closed
+  settled-partial q =
+      let closes : reach closed ≡ closed = subst (λ (x : List ℕ). reach x ≡ x) (sym (settled .rows-are)) (reach-idem known tidy) in
+      record { closed = closes; acyclic = is-false r (cyclic closed) (is closed (sym closes)) q }
+
+  -- an order that respects the known edges would put a number before itself
+  none-legal : r ≡ true → (o : List ℕ) → T (legal h₀ o) → ⊥
+  none-legal q o k =
+      let respects = legal-iff h₀ (loadable-log b ok) (settled .encoding) (settled .pruning) (settled .low) o .0 k .1 .0 in
+      clash (cyclic known) (is-true r (cyclic known) (is known (settled .rows-are)) q) (cyclic-in known (λ u x. let z = way-forward o known tidy respects u u x in omega arith))
+
+  pub cyclic-answer : r ≡ true → record { found = false; order = replicate 32 0 } ≡ firstAnswer h₀
+  unfolding firstAnswer isSome orderNumbers
+  cyclic-answer q = sym (ap {B = Found} (λ x. record { found = isSome x; order = orderNumbers x }) (first-missing h₀ (none-legal q)))
+
+-- ---- the search's answer
 
 module _ (b : List ℕ) (ok : loadNumber b ≡ 0) (t : ℕ) (size-is : t ≡ transactionsIn b) (ts ks : List ℕ) (n : ℕ) (closed : List ℕ) (settled : SettledIn (historyOf b) ts ks n closed)
     (m : ℕ) (room : 4 * n ≤ m) (w : List ℕ) (put : WordsOf (itemsBy ts ks n) n m w) where
@@ -38,11 +77,8 @@ module _ (b : List ℕ) (ok : loadNumber b ≡ 0) (t : ℕ) (size-is : t ≡ tra
   asked-open : Asked (size h) w n (p .known)
   asked-open = asked-of h (loadable-log b ok) (settled .encoding) (settled .pruning) (settled .low) w n same (omega (arith, put .long)) (settled .few)
 
-  pub asked : Asked t w n closed × (reach closed ≡ closed)
-  asked = (
-    subst (λ (x : ℕ). Asked x w n closed) (sym t-is) (closed-asked (size h) w n (p .known) asked-open closed (settled .rows-are)),
-    closed-closed (size h) w n (p .known) asked-open closed (settled .rows-are),
-  )
+  pub asked : Asked t w n closed
+  asked = subst (λ (x : ℕ). Asked x w n closed) (sym t-is) (closed-asked (size h) w n (p .known) asked-open closed (settled .rows-are))
 
   answer-is : (found : Bool) (order : List ℕ) → Answered t w n closed found order → (firstLegal h ≡ cond found (some (take (size h) order)) none) × (order ≡ orderNumbers (firstLegal h))
   answer-is found order a =

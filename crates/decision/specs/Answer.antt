@@ -16,6 +16,7 @@ pub record SettledIn (h : History) (t ks : List ℕ) (n : ℕ) (closed : List �
   pub encoding : ℕ
   pub pruning : ℕ
   pub low : encoding < 3
+  pub once : pruning < 2
   pub few : n ≤ 4096
   pub items-are : itemsBy t ks n ≡ polygraph h encoding pruning .choices
   pub rows-are : closed ≡ reach (polygraph h encoding pruning .known)

@@ -5,6 +5,7 @@ ghost use Prim.Native.Nat.{_≤_, _*_};
 ghost use lib.ListN.{length};
 ghost use Rattle.model.specs.Log.{transactionsIn, loadNumber, historyOf};
 ghost use Rattle.listing.specs.Candidates.{itemsBy};
+ghost use Rattle.search.specs.Steps.{PartialOrder};
 ghost use Rattle.decision.specs.Words.{WordsOf};
 ghost use Rattle.decision.specs.Answer.{SettledIn, firstAnswer};
 use listing::PLACES;
@@ -42,7 +43,7 @@ fn first_of_few<'a, 'b>(
     n: usize,
     closed: [u32; 32],
 ) -> Found
-    requires { ⌜ (loadNumber (now log) ≡ 0) × (n ≤ 64) × SettledIn (historyOf (now log)) (now tables) (now chosen) n closed ⌝ }
+    requires { ⌜ (loadNumber (now log) ≡ 0) × (n ≤ 64) × SettledIn (historyOf (now log)) (now tables) (now chosen) n closed × PartialOrder closed ⌝ }
     ensures { λ r. ⌜ r ≡ firstAnswer (historyOf (now (log .entry))) ⌝ }
 {
     let t = log::transactions(log);
@@ -59,7 +60,7 @@ fn first_of_some<'a, 'b>(
     n: usize,
     closed: [u32; 32],
 ) -> Found
-    requires { ⌜ (loadNumber (now log) ≡ 0) × (n ≤ 512) × SettledIn (historyOf (now log)) (now tables) (now chosen) n closed ⌝ }
+    requires { ⌜ (loadNumber (now log) ≡ 0) × (n ≤ 512) × SettledIn (historyOf (now log)) (now tables) (now chosen) n closed × PartialOrder closed ⌝ }
     ensures { λ r. ⌜ r ≡ firstAnswer (historyOf (now (log .entry))) ⌝ }
 {
     let t = log::transactions(log);
@@ -76,7 +77,7 @@ fn first_of_many<'a, 'b>(
     n: usize,
     closed: [u32; 32],
 ) -> Found
-    requires { ⌜ (loadNumber (now log) ≡ 0) × SettledIn (historyOf (now log)) (now tables) (now chosen) n closed ⌝ }
+    requires { ⌜ (loadNumber (now log) ≡ 0) × SettledIn (historyOf (now log)) (now tables) (now chosen) n closed × PartialOrder closed ⌝ }
     ensures { λ r. ⌜ r ≡ firstAnswer (historyOf (now (log .entry))) ⌝ }
 {
     let t = log::transactions(log);
@@ -86,7 +87,7 @@ fn first_of_many<'a, 'b>(
 }
 
 // The first legal order of a log whose constraints the first n numbers are, beside the closed words of its known edges in the same setting; or that
-// there is none: 32 numbers, 0 behind the order.
+// there is none: 32 numbers, 0 behind the order. Where the known edges have a cycle there is none, and nothing is put into words.
 pub fn first_settled<'a, 'b>(
     log: &'a [u8],
     tables: &'b [u32; WORDS],
@@ -97,6 +98,12 @@ pub fn first_settled<'a, 'b>(
     requires { ⌜ (loadNumber (now log) ≡ 0) × SettledIn (historyOf (now log)) (now tables) (now chosen) n closed ⌝ }
     ensures { λ r. ⌜ r ≡ firstAnswer (historyOf (now (log .entry))) ⌝ }
 {
+    if graph::cyclic(closed) {
+        return Found {
+            found: false,
+            order: [0; 32],
+        };
+    }
     if n <= FEW {
         return first_of_few(log, tables, chosen, n, closed);
     }

@@ -18,7 +18,7 @@ use pruning::Pruned;
 
 // What is known of a polygraph before anything is written, beside the tables and the numbers of its constraints: the known edges before pruning, and
 // the count of constraints before pruning.
-pub struct Plan {
+pub struct Known {
     pub rows: [u32; 32],
     pub count: usize,
 }
@@ -43,13 +43,13 @@ fn choose(
     }
 }
 
-// The plan of a log's polygraph in an encoding.
+// Plans a log's polygraph in an encoding: into the tables and the numbers, and what is known beside them.
 pub fn prepare(
     log: &[u8],
     encoding: u8,
     tables: &mut [u32; WORDS],
     chosen: &mut [u16; PLACES],
-) -> Plan
+) -> Known
     requires { ⌜ (loadNumber (now log) ≡ 0) × (encoding ≤ 2) × Space (now tables) (now chosen) ⌝ }
     ensures { λ r. ⌜ Planned (historyOf (now (log .entry))) encoding (now (tables .exit)) (now (chosen .exit)) (r .rows) (r .count) ⌝ }
 {
@@ -61,7 +61,7 @@ pub fn prepare(
     polygraph::read_marks(&reads, read, &writers, &mut marks);
     let rows = polygraph::known(log, n, encoding, &reads, read, &writers, &marks);
     let count = choose(log, n, encoding, &writers, &marks, tables, chosen);
-    Plan { rows, count }
+    Known { rows, count }
 }
 
 // The polygraph that was planned goes into the list: the constraints that pruning leaves, in list order, then four zeros up to the count before

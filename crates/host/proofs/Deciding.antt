@@ -12,7 +12,7 @@ use lib.ListN.{length, take, replicate}
 use borrow.Author.Tests.{lt-ltb, le-ltb}
 use Rattle.model.specs.History.{History, size, legal, isOrder, finalTable}
 use Rattle.model.specs.Log.{loadNumber, transactionsIn, historyOf}
-use Rattle.model.specs.Lent.{orderNumbers, writtenOrder, writtenTable}
+use Rattle.model.specs.Lent.{orderNumbers, writtenOrder, writtenTable, encodedCount}
 use Rattle.model.specs.Search.{firstLegal}
 use Rattle.model.proofs.Basics.{true-eq}
 use Rattle.model.proofs.First.{first-some, legal-order}
@@ -44,13 +44,14 @@ module _ (log : List ℕ) (loads : loadNumber log ≡ 0) where
 
   -- ---- what is found
 
-  module _ (e pruning places : ℕ) (t ks : List ℕ) (r : Outcome)
-      (finds : Finds (polygraphRefusal (historyOf log) e pruning places 32) (historyOf log) e pruning places t ks r) where
-    pub as-decided : foundDecision log r ≡ deciding (loadedCase log) e pruning places
+  module _ (e pruning places : ℕ) (listed : Bool) (t ks : List ℕ) (r : Outcome)
+      (finds : Finds (polygraphRefusal (historyOf log) e pruning places 32) (historyOf log) e pruning places listed t ks r) where
+    pub as-decided : foundDecision log r (encodedCount (historyIn (loadedCase log)) e pruning) ≡ deciding (loadedCase log) e pruning places
     as-decided =
-        found-decision (loadedCase log) e pruning places t ks r
-        (held-finds (loadedCase log) e pruning places t ks r held
-        (subst (λ b. Finds (polygraphRefusal (historyOf b) e pruning places 32) (historyOf b) e pruning places t ks r) (sym (load-holds log)) finds))
+        found-decision (loadedCase log) e pruning places listed t ks r
+        (held-finds (loadedCase log) e pruning places listed t ks r held
+        (subst (λ b. Finds (polygraphRefusal (historyOf b) e pruning places 32) (historyOf b) e pruning places listed t ks r) (sym (load-holds log)) finds))
+        _ (λ z. refl)
 
     -- an order that is found has every number below T once
     pub found-order : r .number ≡ 0 → r .found ≡ true → T (isOrder (transactionsIn log) (take (transactionsIn log) (r .order)))
@@ -115,21 +116,25 @@ module _ (log : List ℕ) (loads : loadNumber log ≡ 0) where
 abbrev pub Said : Decision → List ℕ → List ℕ → ℕ → List ℕ → List ℕ → Type 0
 Said d order table n order′ table′ = (n ≡ saidCode d (length order) (length table)) × ((order′ ≡ saidOrder d order (length table)) × (table′ ≡ saidTable d (length order) table))
 
-module _ (log : List ℕ) (r : Outcome) (order table : List ℕ) where
+-- the three of them, each for any count
+pub each : {A B C : ℕ → Type 0} → ((left : ℕ) → A left × (B left × C left)) → ((left : ℕ) → A left) × (((left : ℕ) → B left) × ((left : ℕ) → C left))
+each f = (λ left. f left .0, (λ left. f left .1 .0, λ left. f left .1 .1))
+
+module _ (log : List ℕ) (r : Outcome) (order table : List ℕ) (left : ℕ) where
   abbrev kept : Case
   kept = storing (loadedCase log) (r .number) (r .found) (r .order)
 
-  pub said-refused : r .number ≢ 0 → Said (foundDecision log r) order table (r .number) order table
+  pub said-refused : r .number ≢ 0 → Said (foundDecision log r left) order table (r .number) order table
   unfolding refusedDecision
   said-refused f =
-      subst (λ (d : Decision). Said d order table (r .number) order table) (answer-refused kept (r .number) (r .found) (r .order) (r .left) f) (refl, (refl, refl))
+      subst (λ (d : Decision). Said d order table (r .number) order table) (answer-refused kept (r .number) (r .found) (r .order) left f) (refl, (refl, refl))
 
-  pub said-none : r .number ≡ 0 → r .found ≡ false → Said (foundDecision log r) order table 255 order table
+  pub said-none : r .number ≡ 0 → r .found ≡ false → Said (foundDecision log r left) order table 255 order table
   said-none z f =
-      subst (λ (d : Decision). Said d order table 255 order table) (answer-found kept (r .number) (r .found) (r .order) (r .left) false z f) (refl, (refl, refl))
+      subst (λ (d : Decision). Said d order table 255 order table) (answer-found kept (r .number) (r .found) (r .order) left false z f) (refl, (refl, refl))
 
   pub said-order : (n : ℕ) (order′ table′ : List ℕ) → r .number ≡ 0 → r .found ≡ true → Written (orderedCase log (r .order)) order table n order′ table′
-      → Said (foundDecision log r) order table n order′ table′
+      → Said (foundDecision log r left) order table n order′ table′
   said-order n order′ table′ z f w =
-      subst (λ (d : Decision). Said d order table n order′ table′) (answer-found kept (r .number) (r .found) (r .order) (r .left) true z f)
+      subst (λ (d : Decision). Said d order table n order′ table′) (answer-found kept (r .number) (r .found) (r .order) left true z f)
       (subst (λ (k : Case). Written k order table n order′ table′) (ap₂ {C = Case} (λ (m : ℕ) (b : Bool). storing (loadedCase log) m b (r .order)) (sym z) (sym f)) w)

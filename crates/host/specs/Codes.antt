@@ -74,12 +74,12 @@ saidOrder d order table = whereOrdered (d .verdict) (orderOf (d .case) order tab
 abbrev pub saidTable : Decision → ℕ → List ℕ → List ℕ
 saidTable d order table = whereOrdered (d .verdict) (tableOf (d .case) order table) table
 
--- the case that stands for a log with the numbers of an order, and the decision that stands for what is found over a log
+-- the case that stands for a log with the numbers of an order, and the decision that stands for what is found over a log, with any count of constraints left
 abbrev pub orderedCase : List ℕ → List ℕ → Case
 orderedCase log numbers = storing (loadedCase log) 0 true numbers
 
-abbrev pub foundDecision : List ℕ → Outcome → Decision
-foundDecision log o = foundBy (loadedCase log) (o .number) (o .found) (o .order) (o .left)
+abbrev pub foundDecision : List ℕ → Outcome → ℕ → Decision
+foundDecision log o left = foundBy (loadedCase log) (o .number) (o .found) (o .order) left
 
 unfoldable pub decideCode : List ℕ → ℕ → ℕ → ℕ → ℕ → ℕ
 decideCode log e pruning order table = whereLoaded log (saidCode (decisionOf log e pruning) order table) (loadNumber log)

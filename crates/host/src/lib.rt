@@ -3,6 +3,7 @@
 // include/beaconcrumb.h says what each gives; the contracts say it as equations with the calls' own definitions.
 ghost use mathlib.Core.Path.{_≡_};
 ghost use mathlib.Core.Bool.{true};
+ghost use Prim.Native.Nat.{ℕ};
 ghost use lib.Dec.{T};
 ghost use lib.ListN.{length, take};
 ghost use Rattle.model.specs.History.{isOrder};
@@ -82,12 +83,12 @@ fn write(log: &[u8], numbers: [u8; 32], order: &mut [u8], table: &mut [u8]) -> u
     0
 }
 
-// The refusal's number, 255 for 'no order', or what there is to write.
+// The refusal's number, 255 for 'no order', or what there is to write, whatever count of constraints is left.
 fn answered(log: &[u8], o: Outcome, order: &mut [u8], table: &mut [u8]) -> u32
     requires { ⌜ (loadNumber (now log) ≡ 0) × (o .number ≡ 0 → o .found ≡ true → T (isOrder (transactionsIn (now log)) (take (transactionsIn (now log)) (o .order)))) ⌝ }
-    ensures result { λ r. ⌜ r ≡ saidCode (foundDecision (now (log .entry)) o) (length (now (order .entry))) (length (now (table .entry))) ⌝ }
-    ensures order { λ _. ⌜ now (order .exit) ≡ saidOrder (foundDecision (now (log .entry)) o) (now (order .entry)) (length (now (table .entry))) ⌝ }
-    ensures table { λ _. ⌜ now (table .exit) ≡ saidTable (foundDecision (now (log .entry)) o) (length (now (order .entry))) (now (table .entry)) ⌝ }
+    ensures result { λ r. ⌜ ((left : ℕ) → r ≡ saidCode (foundDecision (now (log .entry)) o left) (length (now (order .entry))) (length (now (table .entry)))) ⌝ }
+    ensures order { λ _. ⌜ ((left : ℕ) → now (order .exit) ≡ saidOrder (foundDecision (now (log .entry)) o left) (now (order .entry)) (length (now (table .entry)))) ⌝ }
+    ensures table { λ _. ⌜ ((left : ℕ) → now (table .exit) ≡ saidTable (foundDecision (now (log .entry)) o left) (length (now (order .entry))) (now (table .entry))) ⌝ }
 {
     let number = o.number as u32;
     if number != 0 {
@@ -120,7 +121,15 @@ pub extern "C" fn beaconcrumb_decide(
     }
     let mut tables = [0u32; WORDS];
     let mut chosen = [0u16; PLACES];
-    let o = decided(log, encoding, pruning, 4096, &mut tables, &mut chosen);
+    let o = decided(
+        log,
+        encoding,
+        pruning,
+        4096,
+        false,
+        &mut tables,
+        &mut chosen,
+    );
     answered(log, o, order, table)
 }
 

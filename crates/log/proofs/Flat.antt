@@ -1,4 +1,4 @@
--- The loop over all bodies of a log: the masks at a body are of the keys since its transaction began, and behind the last body all are good. Assumes nothing.
+-- The loop over all bodies of a log: the masks at a body are of the keys since its transaction began, and all bodies so far are good. Assumes nothing.
 use Prim.Native.Nat.{ℕ, zero, suc, _+_, _-_, _%_, _≤_, _<_}
 use native.Mathlib.Omega.{arith}
 use mathlib.Core.Path.{_≡_, refl, sym, ap, ap₂, subst, _∙_}
@@ -10,7 +10,7 @@ use Rattle.model.specs.Log.{operationsIn, countAt, startAt, countsBefore, keyAt
 use Rattle.model.proofs.Basics.{same?}
 use Rattle.model.proofs.Loaded.{first-on}
 use borrow.Author.Tests.{eq-eqb, ne-eqb}
-use Rattle.log.specs.Tests.{bodyBy, faultsBy, markBy, GoodEntries, startsAt}
+use Rattle.log.specs.Tests.{bodyBy, faultsBy, markBy, GoodEntries, GoodTo, startsAt}
 use Rattle.log.specs.Reading.{recordAt, BodyIn}
 use Rattle.log.specs.declared.Body.{Body}
 use Rattle.log.proofs.Numbers.{maskAt, mask-next, masks-start, body-is}
@@ -125,8 +125,12 @@ unfolding firstNumber
 first-none f zero g = refl
 first-none f (suc n) g = first-on f n (first-none f n (λ i l. g i (omega arith))) (g n (omega arith))
 
--- behind the last body
-pub flat-end : (b : List ℕ) (n : ℕ) → GoodEntries b n → (j reads writes : ℕ) → Flat b n j (operationsIn b) reads writes → firstNumber (bodiesNumber b) n ≡ 0
+-- where the first i bodies are good, so is each transaction that has only bodies of these
+pub flat-good : (b : List ℕ) (n j i reads writes : ℕ) → Flat b n j i reads writes → GoodTo b n i
 unfolding bodiesNumber
-flat-end b n p j reads writes f =
-    first-none (bodiesNumber b) n (λ t l. first-none (bodyNumber b (startAt b t)) (countAt b t) (λ m k. f .good t m l k (omega (arith, placed-within b n p t l))))
+flat-good b n j i reads writes f t l e =
+    first-none (bodyNumber b (startAt b t)) (countAt b t) (λ m k. f .good t m l k (omega (arith, e)))
+
+-- where these are all bodies, each transaction is good
+pub good-all : (b : List ℕ) (n : ℕ) → GoodEntries b n → (r : ℕ) → r ≡ operationsIn b → GoodTo b n r → firstNumber (bodiesNumber b) n ≡ 0
+good-all b n p r e g = first-none (bodiesNumber b) n (λ t l. g t l (omega (arith, e, placed-within b n p t l)))

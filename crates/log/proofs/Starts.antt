@@ -1,9 +1,8 @@
--- Where the transactions of a log start, and whose body each is: the owner of a body is the last transaction that starts at or before it. Assumes nothing.
+-- Where the transactions of a log start. Assumes nothing.
 --     starts-none, starts-some       what the count of the transactions that start at a body says
 --     begun-start, begun-next        the table of these counts
 --     starts-up, starts-whole        each transaction starts where the one before it ends, and none inside another
---     owner-is, owner-first, owner-next   the owner of a body, by how many transactions have started, and how that grows from body to body
-use Prim.Native.Nat.{ℕ, zero, suc, _+_, _-_, _≤_, _<_}
+use Prim.Native.Nat.{ℕ, zero, suc, _+_, _≤_, _<_}
 use native.Mathlib.Omega.{arith}
 use native.Mathlib.Numerals.{add-one}
 use mathlib.Core.Path.{_≡_, refl, sym, ap, ap₂, subst, _∙_}
@@ -16,7 +15,7 @@ use lib.Seq.{getD-set-same, getD-set-other}
 use Rattle.model.specs.Log.{countAt, startAt, countsBefore, entryNumber}
 use Rattle.model.proofs.Basics.{decide, same?}
 use Rattle.model.proofs.Loaded.{first-out, counts-suc, counts-mono, good-entry}
-use borrow.Author.Tests.{eq-eqb, ne-eqb, lt-ltb, le-ltb}
+use borrow.Author.Tests.{eq-eqb, ne-eqb}
 use Rattle.log.specs.Tests.{GoodEntries, startsAt, Begun}
 
 -- transaction t, which starts at body i
@@ -86,58 +85,3 @@ module _ (b : List ℕ) (n : ℕ) (starts : (t : ℕ) → t < n → startAt b t 
 
 pub good-starts : (b : List ℕ) (n : ℕ) → GoodEntries b n → (t : ℕ) → t < n → startAt b t ≡ countsBefore b t
 good-starts b n p t l = good-entry b t (first-out (entryNumber b) n (p .entries) t l) .start-is
-
--- ---- whose body it is
-
--- how many of the first n transactions start at or before body i
-unfoldable pub startedBy : List ℕ → ℕ → ℕ → ℕ
-startedBy b zero i = 0
-startedBy b (suc t) i = startedBy b t i + cond (ltb i (startAt b t)) 0 1
-
-started-all : (b : List ℕ) (n i : ℕ) → ((t : ℕ) → t < n → startAt b t ≤ i) → startedBy b n i ≡ n
-unfolding startedBy
-started-all b zero i f = refl
-started-all b (suc n) i f =
-    omega (arith, started-all b n i (λ t l. f t (omega arith)), ap {B = ℕ} (λ (x : Bool). cond x 0 1) (le-ltb i (startAt b n) (f n (omega arith))))
-
-started-same : (b : List ℕ) (n k i : ℕ) → ((t : ℕ) → n ≤ t → t < k + n → i < startAt b t) → startedBy b (k + n) i ≡ startedBy b n i
-unfolding startedBy
-started-same b n zero i f = let e : 0 + n ≡ n = omega arith in ap (λ u. startedBy b u i) e
-started-same b n (suc k) i f =
-    let e : suc k + n ≡ suc (k + n) = omega arith in
-    ap (λ u. startedBy b u i) e
-    ∙ omega (arith, started-same b n k i (λ t l q. f t l (omega arith)), ap {B = ℕ} (λ (x : Bool). cond x 0 1) (lt-ltb i (startAt b (k + n)) (f (k + n) (omega arith) (omega arith))))
-
--- the owner of a body is the last transaction that starts at or before it
-pub owner-is : (b : List ℕ) (n : ℕ) → ((t : ℕ) → t < n → startAt b t ≡ countsBefore b t)
-    → (t m : ℕ) → t < n → m < countAt b t → startedBy b n (startAt b t + m) ≡ suc t
-owner-is b n starts t m l k =
-    let up : n - suc t + suc t ≡ n = omega arith in
-    ap (λ u. startedBy b u (startAt b t + m)) (sym up)
-    ∙ started-same b (suc t) (n - suc t) (startAt b t + m) (λ u q r. omega (arith, starts-up b n starts t u q (omega arith)))
-    ∙ started-all b (suc t) (startAt b t + m) (λ u q. omega (arith, starts-sorted b n starts u t (omega arith) l))
-
--- from body to body it grows by the transactions that start there
-pub owner-first : (b : List ℕ) (n : ℕ) → startedBy b n 0 ≡ startsAt b n 0
-unfolding startedBy startsAt
-owner-first b zero = refl
-owner-first b (suc n) = ap₂ (λ x y. x + y) (owner-first b n) (one (startAt b n))
-  where
-    one : (x : ℕ) → _≡_ {A = ℕ} (cond (ltb 0 x) 0 1) (cond (eqb x 0) 1 0)
-    one x =
-        ⊎-elim (λ (e : x ≡ 0). ap {B = ℕ} (λ (y : Bool). cond y 0 1) (le-ltb 0 x (omega arith)) ∙ sym (ap {B = ℕ} (λ (y : Bool). cond y 1 0) (eq-eqb x 0 e)))
-        (λ (e : x ≢ 0). ap {B = ℕ} (λ (y : Bool). cond y 0 1) (lt-ltb 0 x (omega arith)) ∙ sym (ap {B = ℕ} (λ (y : Bool). cond y 1 0) (ne-eqb x 0 e))) (same? x 0)
-
-pub owner-next : (b : List ℕ) (n i : ℕ) → startedBy b n (i + 1) ≡ startedBy b n i + startsAt b n (i + 1)
-unfolding startedBy startsAt
-owner-next b zero i = refl
-owner-next b (suc n) i = omega (arith, owner-next b n i, one (startAt b n))
-  where
-    one : (x : ℕ) → _≡_ {A = ℕ} (cond (ltb (i + 1) x) 0 1) (cond (ltb i x) 0 1 + cond (eqb x (i + 1)) 1 0)
-    one x =
-        ⊎-elim (λ (e : x ≡ i + 1). ap {B = ℕ} (λ (y : Bool). cond y 0 1) (le-ltb (i + 1) x (omega arith))
-        ∙ sym (ap₂ {C = ℕ} (λ (y z : Bool). cond y 0 1 + cond z 1 0) (lt-ltb i x (omega arith)) (eq-eqb x (i + 1) e)))
-        (λ (e : x ≢ i + 1). ⊎-elim
-        (λ l. ap {B = ℕ} (λ (y : Bool). cond y 0 1) (lt-ltb (i + 1) x (omega (arith, ltb→lt i x l))) ∙ sym (ap₂ {C = ℕ} (λ (y z : Bool). cond y 0 1 + cond z 1 0) (lt-ltb i x (ltb→lt i x l)) (ne-eqb x (i + 1) e)))
-        (λ l. ap {B = ℕ} (λ (y : Bool). cond y 0 1) (le-ltb (i + 1) x (omega (arith, nltb→le i x l))) ∙ sym (ap₂ {C = ℕ} (λ (y z : Bool). cond y 0 1 + cond z 1 0) (le-ltb i x (nltb→le i x l)) (ne-eqb x (i + 1) e)))
-        (decide (ltb i x))) (same? x (i + 1))

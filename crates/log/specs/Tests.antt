@@ -9,7 +9,7 @@ use lib.Dec.{eqb, ltb}
 use lib.Bits.{bitAnd, bitOr}
 use Rattle.model.specs.Lists.{bit}
 use Rattle.model.specs.History.{start}
-use Rattle.model.specs.Log.{transactionsIn, operationsIn, countAt, startAt, countsBefore, orElse, firstNumber, entryNumber}
+use Rattle.model.specs.Log.{transactionsIn, operationsIn, countAt, startAt, countsBefore, orElse, firstNumber, entryNumber, bodiesNumber}
 use Rattle.log.specs.Reading.{entryAt}
 use Rattle.log.specs.declared.Body.{Body}
 use Rattle.log.specs.declared.view.Entry.{Entry}
@@ -66,6 +66,10 @@ pub record GoodEntries (b : List ℕ) (n : ℕ) : Type 0 where
   pub long : length b ≡ 4 + 4 * n + 4 * operationsIn b
   pub entries : firstNumber (entryNumber b) n ≡ 0
   pub sum : countsBefore b n ≡ operationsIn b
+
+-- each transaction that has only bodies of the first r is good
+abbrev pub GoodTo : List ℕ → ℕ → ℕ → Type 0
+GoodTo b n r = (t : ℕ) → t < n → startAt b t + countAt b t ≤ r → bodiesNumber b t ≡ 0
 
 -- how many of the first n transactions start at body i
 unfoldable pub startsAt : List ℕ → ℕ → ℕ → ℕ

@@ -1,12 +1,12 @@
 // Load's tests of the bodies: 7 to 11. The keys that a transaction has read and written so far are two masks.
-// `all_good` asks in one loop over all bodies whether each is good, with no branch on what a body is; where it says no, `first_refused` goes body by body
-// and finds the number.
+// `count_good` goes over all bodies in one loop, with no branch on what a body is, and counts those before the first bad one. Where these are not all,
+// `first_refused` goes body by body through the transactions that end behind them and finds the number.
 ghost use mathlib.Core.Path.{_≡_};
 ghost use mathlib.Core.Bool.{cond};
 ghost use Prim.Native.Nat.{_<_};
-ghost use lib.Dec.{T, eqb};
+ghost use lib.Dec.{eqb};
 ghost use Rattle.model.specs.Log.{operationsIn, firstNumber, bodiesNumber};
-ghost use Rattle.log.specs.Tests.{named, readBy, writeBy, bodyBy, faultsBy, markBy, GoodEntries, Begun};
+ghost use Rattle.log.specs.Tests.{named, readBy, writeBy, bodyBy, faultsBy, markBy, GoodEntries, GoodTo, Begun};
 use crate::Body;
 use crate::view::body_of;
 use crate::view::entry_of;
@@ -68,12 +68,16 @@ fn number(o: Body, n: usize, reads: u32, writes: u32) -> u8
     write(o.key as u32, writes)
 }
 
-// The number of the first body of transaction t that is refused, or 0.
-fn of_transaction(log: &[u8], n: usize, t: usize) -> u8
-    requires { ⌜ GoodEntries (now log) n × (t < n) ⌝ }
+// The number of the first body of transaction t that is refused, or 0. Where t has only bodies of the first `good`, none is read again.
+fn of_transaction(log: &[u8], n: usize, good: usize, t: usize) -> u8
+    requires { ⌜ GoodEntries (now log) n × GoodTo (now log) n good × (t < n) ⌝ }
     ensures { λ r. ⌜ r ≡ bodiesNumber (now (log .entry)) t ⌝ }
 {
-    let count = entry_of(log, t).count as usize;
+    let e = entry_of(log, t);
+    let count = e.count as usize;
+    if e.start as usize + count <= good {
+        return 0;
+    }
     let mut reads: u32 = 0;
     let mut writes: u32 = 0;
     let mut m: usize = 0;
@@ -92,13 +96,13 @@ fn of_transaction(log: &[u8], n: usize, t: usize) -> u8
 }
 
 // The same over all transactions.
-fn first_refused(log: &[u8], n: usize) -> u8
-    requires { ⌜ GoodEntries (now log) n ⌝ }
+fn first_refused(log: &[u8], n: usize, good: usize) -> u8
+    requires { ⌜ GoodEntries (now log) n × GoodTo (now log) n good ⌝ }
     ensures { λ r. ⌜ r ≡ firstNumber (bodiesNumber (now (log .entry))) n ⌝ }
 {
     let mut t: usize = 0;
     while t < n {
-        let x = of_transaction(log, n, t);
+        let x = of_transaction(log, n, good, t);
         if x != 0 {
             return x;
         }
@@ -149,15 +153,16 @@ fn kept(mask: u32, starts: u8) -> u32
     if starts == 0 { mask } else { 0 }
 }
 
-// Whether all bodies are good. Only 'yes' has to be right: where it says no, the bodies are tested one by one.
-fn all_good(log: &[u8], n: usize, count: usize) -> bool
+// How many bodies from the first on are good. Only that these are has to be right: the others are tested one by one.
+fn count_good(log: &[u8], n: usize, count: usize) -> usize
     requires { ⌜ GoodEntries (now log) n × (count ≡ operationsIn (now log)) ⌝ }
-    ensures { λ r. ⌜ (T r → firstNumber (bodiesNumber (now (log .entry))) n ≡ 0) ⌝ }
+    ensures { λ r. ⌜ GoodTo (now (log .entry)) n r ⌝ }
 {
     let starts = begins(log, n);
     let mut reads: u32 = 0;
     let mut writes: u32 = 0;
     let mut bad: usize = 0;
+    let mut good: usize = 0;
     let mut i: usize = 0;
     while i < count {
         let o = body_of(log, 0, i);
@@ -165,11 +170,12 @@ fn all_good(log: &[u8], n: usize, count: usize) -> bool
         let read = kept(reads, starts[i]);
         let written = kept(writes, starts[i]);
         bad = bad | faults(o, n, read, written);
+        good += if bad == 0 { 1 } else { 0 };
         reads = mark(read, o.kind, 0, key);
         writes = mark(written, o.kind, 1, key);
         i += 1;
     }
-    bad == 0
+    good
 }
 
 // The number of the first body that is refused, or 0, in a log of n transactions and `count` bodies.
@@ -177,8 +183,9 @@ pub(crate) fn test(log: &[u8], n: usize, count: usize) -> u8
     requires { ⌜ GoodEntries (now log) n × (count ≡ operationsIn (now log)) ⌝ }
     ensures { λ r. ⌜ r ≡ firstNumber (bodiesNumber (now (log .entry))) n ⌝ }
 {
-    if all_good(log, n, count) {
+    let good = count_good(log, n, count);
+    if good == count {
         return 0;
     }
-    first_refused(log, n)
+    first_refused(log, n, good)
 }

@@ -1,4 +1,4 @@
-// Pruning on candidates' numbers, for callers that need no list: passes in list order until one drops none, and those that stay move to the front.
+// Pruning on candidates' numbers, before any list is written: passes in list order until one drops none, and those that stay move to the front.
 // The row words are closed, and are kept so; they may have a cycle.
 ghost use mathlib.Core.Path.{_≡_};
 ghost use mathlib.Core.List.{List};

@@ -250,11 +250,10 @@ module _ (t : ℕ) (w : List ℕ) (n : ℕ) (g : List ℕ) where
       ∙ ap (λ (y : List ℕ). y ++ (getD (set out k v) k 0 ∷ [])) (take-set-le k out k v (omega arith))
       ∙ ap (λ (y : ℕ). take k out ++ (y ∷ [])) (getD-set-same out k v 0 (omega arith)))
 
-  pub filling-next : (k : ℕ) (c l sel : List ℕ) (set₀ : ℕ) (out : List ℕ) → Filling k c l sel set₀ out → k < t → (v : ℕ) (d sel′ : List ℕ) → Picked t w n c set₀ v d sel′
-      → (stuck : Bool) (c′ l′ : List ℕ) → PrunedState w n d l stuck c′ l′ → (set′ : ℕ) → ((y : ℕ) → bit set′ y ≡ (bit set₀ y && not (eqb y v))) → Filling (k + 1) c′ l′ sel′ set′ (set out k v)
-  filling-next k c l sel set₀ out f h v d sel′ p stuck c′ l′ x set′ cleared =
+  pub filling-narrowed : (k : ℕ) (c l sel : List ℕ) (set₀ : ℕ) (out : List ℕ) → Filling k c l sel set₀ out → k < t → (v : ℕ) (d sel′ : List ℕ) → Picked t w n c set₀ v d sel′
+      → (c′ l′ : List ℕ) → Narrowed w n d l c′ l′ → (set′ : ℕ) → ((y : ℕ) → bit set′ y ≡ (bit set₀ y && not (eqb y v))) → Filling (k + 1) c′ l′ sel′ set′ (set out k v)
+  filling-narrowed k c l sel set₀ out f h v d sel′ p c′ l′ y set′ cleared =
       let few = f .begun .progress .few in
-      let y = x .narrowed (not-stuck few (f .begun .progress .aimed) d l sel′ (p .witness) stuck c′ l′ x) in
       record {
         bound = omega arith;
         long = length-set out k v ∙ f .long;
@@ -262,6 +261,12 @@ module _ (t : ℕ) (w : List ℕ) (n : ℕ) (g : List ℕ) where
         begun = subst (λ (y : List ℕ). Begun t w n g y c′ l′ sel′ set′) (take-next k v out (f .long) (omega arith))
             (begun-next (take k out) c l sel set₀ (f .begun) (omega (arith, take-long k out (f .long) (omega arith))) v d sel′ p c′ l′ y set′ cleared);
       }
+
+  pub filling-next : (k : ℕ) (c l sel : List ℕ) (set₀ : ℕ) (out : List ℕ) → Filling k c l sel set₀ out → k < t → (v : ℕ) (d sel′ : List ℕ) → Picked t w n c set₀ v d sel′
+      → (stuck : Bool) (c′ l′ : List ℕ) → PrunedState w n d l stuck c′ l′ → (set′ : ℕ) → ((y : ℕ) → bit set′ y ≡ (bit set₀ y && not (eqb y v))) → Filling (k + 1) c′ l′ sel′ set′ (set out k v)
+  filling-next k c l sel set₀ out f h v d sel′ p stuck c′ l′ x set′ cleared =
+      let st = f .begun .progress in
+      filling-narrowed k c l sel set₀ out f h v d sel′ p c′ l′ (x .narrowed (not-stuck (st .few) (st .aimed) d l sel′ (p .witness) stuck c′ l′ x)) set′ cleared
 
   pub filling-end : (k : ℕ) (c l sel : List ℕ) (set₀ : ℕ) (out : List ℕ) → Filling k c l sel set₀ out → k ≡ t → First t w n g out
   filling-end k c l sel set₀ out f e =

@@ -1,6 +1,7 @@
 -- One number before all others of a set, over closed row words. Assumes nothing.
-use Prim.Native.Nat.{ℕ, _+_, _^_, _≤_, _<_}
+use Prim.Native.Nat.{ℕ, zero, suc, _+_, _^_, _≤_, _<_}
 use native.Mathlib.Omega.{arith}
+use native.Mathlib.Numerals.{add-one}
 use mathlib.Core.Path.{_≡_, refl, sym, subst}
 use mathlib.Core.Logic.{_⊎_, inl, inr, ⊎-elim, _≢_}
 use mathlib.Core.Bool.{Bool, true, false, not, cond, _&&_}
@@ -44,6 +45,18 @@ under-next c set i r x n e = subst (Under c set (i + 1)) (sym e) (go (bit set i)
               ⊎-elim (λ (q : u ≡ i). absurd (g (subst (λ (k : ℕ). T (bit set k)) q a))) (λ (q : u ≢ i). n .whole u v (omega arith) a b) (same? u i);
         }
 
+-- there is always such a word
+pub some-under : (c : List ℕ) (set : ℕ) → Small c → (i : ℕ) → (r : ℕ) × Under c set i r × (r < 2 ^ 32)
+some-under c set small zero = (0, under-none c set, omega arith)
+some-under c set small (suc i) =
+    let r = some-under c set small i in
+    let x = cond (bit set i) (bitOr (r .0) (getD c i 0)) (r .0) in
+    (x, subst (λ (k : ℕ). Under c set k x) (add-one i) (under-next c set i (r .0) x (r .1) refl), go (bit set i) (or-lt 32 (r .0) (getD c i 0) (r .2) (small i)) (r .2))
+  where
+    go : {m n : ℕ} (b : Bool) → m < 2 ^ 32 → n < 2 ^ 32 → cond b m n < 2 ^ 32
+    go true p q = p
+    go false p q = q
+
 -- ---- words whose edges are transitive are closed
 
 module _ (d : List ℕ) (trans : (u v w : ℕ) → T (has d u v) → T (has d v w) → T (has d u w)) where
@@ -59,6 +72,9 @@ module _ (d : List ℕ) (trans : (u v w : ℕ) → T (has d u v) → T (has d v 
             (λ u v hu hv. iff-eq (has (reach d) u v) (has d u v) (λ t. way-edge u v (reach-way d u v t)) (λ t. reach-old d u v hu hv t));
         acyclic = cyclic-in d (λ u w. none u (way-edge u u w));
       }
+
+pub closed-small : (c : List ℕ) → PartialOrder c → Small c
+closed-small c p j = subst (λ (x : List ℕ). getD x j 0 < 2 ^ 32) (p .closed) (reach-small c j)
 
 -- ---- v before all others of the set
 
@@ -130,6 +146,10 @@ module _ (c : List ℕ) (p : PartialOrder c) (set under : ℕ) (un : Under c set
           (⊎-elim (λ a. or-l (has c j y) (bit (bitOr rest under) y) a) (λ a. or-r (has c j y) (bit (bitOr rest under) y) (after-in y (a .1))) z)
       go false f z = ⊎-elim (λ a. a) (λ a. absurd (f (a .0))) z
 
+  -- those of the set but v have the edges that they had
+  pub placed-same : (x y : ℕ) → T (bit set x) → x ≢ v → T (has d x y) → T (has c x y)
+  placed-same x y m ne t = ⊎-elim (λ a. a) (λ a. absurd (⊎-elim ne (no-back x m) (a .0))) (has-out x y t)
+
   into-32 : (j : ℕ) → Into j → j < 32
   into-32 j x = ⊎-elim (λ e. subst (λ (k : ℕ). k < 32) (sym e) hv) (λ t. ti j v t .0) x
 
@@ -162,7 +182,7 @@ module _ (c : List ℕ) (p : PartialOrder c) (set under : ℕ) (un : Under c set
       (λ (h : 32 ≤ j). subst (λ (x : ℕ). x < 2 ^ 32) (sym (List·getD-eq-default d 0 {n = j} (omega arith))) (omega arith)) (below j)
     where
       row-small : getD c j 0 < 2 ^ 32
-      row-small = subst (λ (x : List ℕ). getD x j 0 < 2 ^ 32) (p .closed) (reach-small c j)
+      row-small = closed-small c p j
 
       go : (b : Bool) → cond b (bitOr (getD c j 0) (bitOr rest under)) (getD c j 0) < 2 ^ 32
       go true = or-lt 32 (getD c j 0) (bitOr rest under) row-small (or-lt 32 rest under rest-small under-small)

@@ -8,6 +8,7 @@ pub mod Walks
 pub mod Leads
 pub mod Picks
 pub mod Fills
+pub mod Lowest
 pub mod Firsts
 pub mod Answer
 pub mod Lights

@@ -1,12 +1,13 @@
 // The lexicographically first order that respects the row words and one side of each constraint: place by place, the lowest number that can come next.
-// Kept from place to place: the closed row words, in which what is placed comes before all else, the open constraints, and the closed words of a selection.
+// `fill` keeps from place to place the closed row words, in which what is placed comes before all else, the open constraints, and the closed words of a
+// selection; where nothing is open, `lowest_first` needs none of them.
 ghost use mathlib.Core.Path.{_≡_};
 ghost use mathlib.Core.Bool.{true, false, not, cond, _&&_};
+ghost use mathlib.Core.List.{[]};
 ghost use Prim.Native.Nat.{ℕ, _+_, _*_, _-_, _<_, _≤_};
 ghost use lib.Bits.{bitOr};
 ghost use lib.Dec.{T, ltb};
 ghost use Rattle.model.specs.Lists.{bit};
-ghost use Rattle.model.specs.Polygraph.{reach};
 ghost use Rattle.search.specs.Constraints.{isOpen, Given, Fit, Dropped};
 ghost use Rattle.search.specs.Steps.{PartialOrder};
 ghost use Rattle.search.specs.Orders.{Under, ledRow, Placed, Progress, Below, Picked, First, Asked, Answered, Begins, opposed, Lighter};
@@ -149,6 +150,21 @@ fn fill(
     out
 }
 
+// All places where there is no constraint: the lowest number each time that nothing unplaced precedes. Nothing has to be tried, so the row words stay as they are.
+fn lowest_first(rows: [u32; 32], all: u32, t: usize) -> [u8; 32]
+    requires { ⌜ Begins t [] 0 rows [] rows all ⌝ }
+    ensures { λ r. ⌜ First t [] 0 rows r ⌝ }
+{
+    let mut set = all;
+    let mut out = [0; 32];
+    for i in 0..t {
+        let v = u32::trailing_zeros(minus(set, below(rows, set)));
+        set = graph::mask::without(set, v);
+        out[i] = v as u8;
+    }
+    out
+}
+
 // The numbers below t, as a set.
 fn numbers(t: u32) -> u32
     requires { ⌜ t ≤ 32 ⌝ }
@@ -229,17 +245,11 @@ fn lighter(left: [u32; 128], words: &[u32], n: usize) -> [u32; 128]
     }
 }
 
-// The first order that respects closed row words and one side of each of the first n constraints.
+// The first order that respects closed row words without a cycle and one side of each of the first n constraints.
 pub fn first_closed(rows: [u32; 32], words: &[u32], n: usize, t: usize) -> Found
-    requires { ⌜ Asked t (now words) n rows × (reach rows ≡ rows) ⌝ }
+    requires { ⌜ Asked t (now words) n rows × PartialOrder rows ⌝ }
     ensures { λ r. ⌜ Answered t (now (words .entry)) n rows (r .found) (r .order) ⌝ }
 {
-    if graph::cyclic(rows) {
-        return Found {
-            found: false,
-            order: [0; 32],
-        };
-    }
     let mut left = all_open(n);
     let p = crate::prune(rows, &mut left, words, n);
     let stuck = p.stuck;
@@ -251,11 +261,15 @@ pub fn first_closed(rows: [u32; 32], words: &[u32], n: usize, t: usize) -> Found
     }
     let d = p.rows;
     let light = lighter(left, words, n);
+    let set = numbers(t as u32);
+    if crate::next_open(&light, 0, n) >= n {
+        let order = lowest_first(d, set, t);
+        return Found { found: true, order };
+    }
     let a = crate::walk(d, &light, words, n);
     let found = a.found;
     if found {
         let sel = a.rows;
-        let set = numbers(t as u32);
         let order = fill(d, light, sel, set, words, n, t);
         return Found { found: true, order };
     }

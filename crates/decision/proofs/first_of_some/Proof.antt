@@ -21,7 +21,7 @@ slice-aggregate-first-closed c = sym (c .before .before .words .ensures .long)
 first-closed-requires : tie.Need-first-closed-requires
 first-closed-requires c κs =
     let s = c .before .before .before .before .before .before in
-    asked (s .args .log .now) (s .pre .0) _ (c .before .before .before .before .transactions .ensures .0) (s .args .tables .now) (s .args .chosen .now) _ _ (s .pre .2) 2048 (omega (arith, s .pre .2 .few)) _ (c .before .before .words .ensures)
+    (asked (s .args .log .now) (s .pre .0) _ (c .before .before .before .before .transactions .ensures .0) (s .args .tables .now) (s .args .chosen .now) _ _ (s .pre .2) 2048 (omega (arith, s .pre .2 .few)) _ (c .before .before .words .ensures), s .pre .3)
 
 returns : tie.Need-returns
 returns c =

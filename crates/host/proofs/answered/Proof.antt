@@ -1,6 +1,6 @@
 -- `host::answered` meets its contract. Assumes nothing.
 use borrow.Author.Tests.{not-true, not-false}
-use Rattle.host.proofs.Deciding.{said-refused, said-none, said-order}
+use Rattle.host.proofs.Deciding.{each, said-refused, said-none, said-order}
 use borrow.Author.Needs.{needs}
 use Rattle.host.proofs.answered.Statement.{statement}
 use Rattle.host.proofs.answered.Tie as tie
@@ -12,12 +12,12 @@ cast-number c = search needs
 returns : tie.Need-returns
 returns c =
     let a = c .before .before .before .before .before .args in
-    said-refused (a .log .now) (a .o) (a .order .now) (a .table .now) (c .if1 .taken)
+    each (λ left. said-refused (a .log .now) (a .o) (a .order .now) (a .table .now) left (c .if1 .taken))
 
 returns-2 : tie.Need-returns-2
 returns-2 c =
     let a = c .before .before .before .before .before .before .args in
-    said-none (a .log .now) (a .o) (a .order .now) (a .table .now) (c .before .if1 .left) (not-true _ (c .if2 .taken))
+    each (λ left. said-none (a .log .now) (a .o) (a .order .now) (a .table .now) left (c .before .if1 .left) (not-true _ (c .if2 .taken)))
 
 write-requires : tie.Need-write-requires
 write-requires c κs =
@@ -33,7 +33,7 @@ same-length-2 c = search needs
 returns-3 : tie.Need-returns-3
 returns-3 c =
     let a = c .before .before .before .before .before .before .before .before .before .before .before .before .before .before .args in
-    said-order (a .log .now) (a .o) (a .order .now) (a .table .now) _ _ _ (c .before .before .before .before .before .before .before .before .before .if1 .left) (not-false _ (c .before .before .before .before .before .before .before .before .if2 .left)) (c .before .before .before .before .write .ensures)
+    each (λ left. said-order (a .log .now) (a .o) (a .order .now) (a .table .now) left _ _ _ (c .before .before .before .before .before .before .before .before .before .if1 .left) (not-false _ (c .before .before .before .before .before .before .before .before .if2 .left)) (c .before .before .before .before .write .ensures))
 
 pub answered-spec : {M : Type 1} → statement M
 answered-spec =

@@ -33,7 +33,7 @@ answered-requires : tie.Need-answered-requires
 answered-requires c κs =
     let a = c .before .before .before .before .before .before .before .before .before .before .args in
     let loads = loads-it (a .log .now) _ _ (c .before .before .before .before .before .before .number .ensures) refl (c .before .before .before .before .before .if1 .left) in
-    (loads, found-order (a .log .now) loads (a .encoding) (a .pruning) 4096 _ _ _ (c .before .before .decided .ensures))
+    (loads, found-order (a .log .now) loads (a .encoding) (a .pruning) 4096 _ _ _ _ (c .before .before .decided .ensures))
 
 same-length : tie.Need-same-length
 same-length c = search needs
@@ -48,11 +48,11 @@ returns-2 c =
     let is = c .before .before .before .before .before .before .before .before .before .before .before .number .ensures in
     let z = c .before .before .before .before .before .before .before .before .before .before .if1 .left in
     let w = c .before .before .before .before .answered .ensures in
-    let d = as-decided (a .log .now) (loads-it (a .log .now) _ _ is refl z) (a .encoding) (a .pruning) 4096 _ _ _ (c .before .before .before .before .before .before .before .decided .ensures) in (
-      where-taken (a .log .now) _ _ is refl _ _ _ z (w .0 ∙ ap (λ x. saidCode x (length (a .order .now)) (length (a .table .now))) d),
+    let d = as-decided (a .log .now) (loads-it (a .log .now) _ _ is refl z) (a .encoding) (a .pruning) 4096 _ _ _ _ (c .before .before .before .before .before .before .before .decided .ensures) in (
+      where-taken (a .log .now) _ _ is refl _ _ _ z (w .0 _ ∙ ap (λ x. saidCode x (length (a .order .now)) (length (a .table .now))) d),
       (
-        where-taken (a .log .now) _ _ is refl _ _ _ z (w .1 .0 ∙ ap (λ x. saidOrder x (a .order .now) (length (a .table .now))) d),
-        where-taken (a .log .now) _ _ is refl _ _ _ z (w .1 .1 ∙ ap (λ x. saidTable x (length (a .order .now)) (a .table .now)) d),
+        where-taken (a .log .now) _ _ is refl _ _ _ z (w .1 .0 _ ∙ ap (λ x. saidOrder x (a .order .now) (length (a .table .now))) d),
+        where-taken (a .log .now) _ _ is refl _ _ _ z (w .1 .1 _ ∙ ap (λ x. saidTable x (length (a .order .now)) (a .table .now)) d),
       ),
     )
 

@@ -91,31 +91,31 @@ module _ {M : Type 1} (𝓤 : URA M) (H : Heap 𝓤) (A : Atoms 𝓤) (W : Given
       (and-then ! (load ! (from ! (stop !)) (look ! 26 refl)) (and-then ! (load ! (from ! (stop !)) (look ! 24 refl)) (and-then ! (load ! (from ! (stop !)) (look ! 22 refl)) (and-then ! (load ! (from ! (stop !)) (look ! 12 refl)) (no-more !))))) (λ u gave.
       let p : Prepared = gave .0 in let ok = of-prepared p u (gave .1 .1) in let found : FoundFor c e pruning (length ys) p = gave .1 .0 in
       land ! (from ! (stop !)) (init ! 18 refl (typed preparedK 𝓤 H A W p u (gave .1 .1) .0)) $ rewrite ! 18 (λ (w : Val). ‵ (fat fullShare P′.mir l₅ 0 w)) (val-is preparedK p u (gave .1 .1)) refl $
-      -- tables = p.tables; chosen = p.chosen
-      assigns ! (of-opd ! (load ! (from ! (fld ! refl (stop !))) (look-in ! 18 (sub ! 5 refl (whole !))))) (from ! (stop !)) (init ! 16 refl (typed tablesK 𝓤 H A W (p .tables) _ (ok .tables-ok) .0)) $
-      assigns ! (of-opd ! (load ! (from ! (fld ! refl (stop !))) (look-in ! 18 (sub ! 6 refl (whole !))))) (from ! (stop !)) (init ! 14 refl (typed placesK 𝓤 H A W (p .chosen) _ (ok .chosen-ok) .0)) $
-      -- write_left(&tables, &chosen, p.left, p.count, list)
+      -- tables = p.plan.tables; chosen = p.plan.chosen
+      assigns ! (of-opd ! (load ! (from ! (fld ! refl (fld ! refl (stop !)))) (look-in ! 18 (sub ! 0 refl (sub ! 1 refl (whole !)))))) (from ! (stop !)) (init ! 16 refl (typed tablesK 𝓤 H A W (p .plan .tables) _ (ok .plan-ok .tables-ok) .0)) $
+      assigns ! (of-opd ! (load ! (from ! (fld ! refl (fld ! refl (stop !)))) (look-in ! 18 (sub ! 2 refl (sub ! 1 refl (whole !)))))) (from ! (stop !)) (init ! 14 refl (typed placesK 𝓤 H A W (p .plan .chosen) _ (ok .plan-ok .chosen-ok) .0)) $
+      -- write_left(&tables, &chosen, p.left, p.plan.count, list)
       assigns ! (addr ! (from ! (stop !))) (from ! (stop !)) (init ! 8 refl (tt, tt)) $
       assigns ! (addr ! (from ! (stop !))) (from ! (stop !)) (init ! 6 refl (tt, tt)) $
       assigns ! (addr ! (from ! (fld ! refl (hop ! (look-in ! 20 (sub ! 0 refl (whole !))) (stop !))))) (from ! (stop !)) (init ! 4 refl (tt, tt)) $
       assigns ! (agg ! (and-then ! (load ! (from ! (stop !)) (look ! 4 refl)) (and-then ! (load ! (from ! (fld ! refl (stop !))) (look-in ! 20 (sub ! 1 refl (whole !)))) (no-more !)))) (from ! (stop !)) (init ! 2 refl (tt, (tt, (record { fits = room .0 }, tt)))) $
       -- the tables and the numbers are lent together, so that [the list; its token; the two; their token; the lender's parts] stand in front, and come back: then they stand third and fourth
-      move ! (16 ∷ 14 ∷ []) $ lends-two ! tt tablesK placesK tt tt (named 0) (p .tables) (p .chosen) l₆ l₇ (ok .tables-ok) (ok .chosen-ok) (λ ν δ δ′. move ! (4 ∷ 5 ∷ []) $
-      calls-both ! (fmOf 𝓤 H (W .laws) 𝓣) R (named 0) (named 1) κ q γ b o (length ys) ys refl room (Lent₂ (named 0) (ν ∷ []) (shared l₆ δ (p .tables)) (shared l₇ δ′ (p .chosen)))
-      (lent-twice 𝓤 H A W (named 0) (ν ∷ []) (shared l₆ δ (p .tables)) (shared l₇ δ′ (p .chosen))) (ν ∷ []) fullShare (Answer unit (λ _. Wrote (p .tables) (p .chosen) (p .left) (p .count) ys))
-      (left-both 𝓤 H A mem run W (𝓣 .C) (fmOf 𝓤 H (W .laws) 𝓣) (known .left) b o (length ys) ys refl (ν ∷ []) fullShare (shared l₆ δ (p .tables)) (shared l₇ δ′ (p .chosen)) (p .left) (p .count) (ok .left-fits) (ok .count-fits) (found .within, found .few, found .fits))
-      (λ i j x y. and-then ! (load ! (from ! (stop !)) (look ! 12 refl)) (and-then ! (load ! (from ! (stop !)) (look ! 10 refl)) (and-then ! (load ! (from ! (fld ! refl (stop !))) (look-in ! 20 (sub ! 4 refl (whole !)))) (and-then ! (load ! (from ! (fld ! refl (stop !))) (look-in ! 20 (sub ! 3 refl (whole !)))) (and-then ! (load ! (from ! (stop !)) (look ! 6 refl)) (no-more !)))))) (λ u₁ zs gave₁ len.
-      land ! (from ! (stop !)) (init ! 14 refl (nothing-lawful 𝓤 H A W .typed (gave₁ .0) (u₁ ∷ []) (gave₁ .1 .1) .0)) $ move ! (3 ∷ 4 ∷ 5 ∷ []) $ two-back ! tt tablesK placesK tt tt (p .tables) (p .chosen) l₆ l₇ ν $ move ! (4 ∷ []) $ drop ! $ move ! (2 ∷ 3 ∷ []) $
+      move ! (16 ∷ 14 ∷ []) $ lends-two ! tt tablesK placesK tt tt (named 0) (p .plan .tables) (p .plan .chosen) l₆ l₇ (ok .plan-ok .tables-ok) (ok .plan-ok .chosen-ok) (λ ν δ δ′. move ! (4 ∷ 5 ∷ []) $
+      calls-both ! (fmOf 𝓤 H (W .laws) 𝓣) R (named 0) (named 1) κ q γ b o (length ys) ys refl room (Lent₂ (named 0) (ν ∷ []) (shared l₆ δ (p .plan .tables)) (shared l₇ δ′ (p .plan .chosen)))
+      (lent-twice 𝓤 H A W (named 0) (ν ∷ []) (shared l₆ δ (p .plan .tables)) (shared l₇ δ′ (p .plan .chosen))) (ν ∷ []) fullShare (Answer unit (λ _. Wrote (p .plan .tables) (p .plan .chosen) (p .left) (p .plan .count) ys))
+      (left-both 𝓤 H A mem run W (𝓣 .C) (fmOf 𝓤 H (W .laws) 𝓣) (known .left) b o (length ys) ys refl (ν ∷ []) fullShare (shared l₆ δ (p .plan .tables)) (shared l₇ δ′ (p .plan .chosen)) (p .left) (p .plan .count) (ok .left-fits) (ok .plan-ok .count-fits) (found .within, found .few, found .fits))
+      (λ i j x y. and-then ! (load ! (from ! (stop !)) (look ! 12 refl)) (and-then ! (load ! (from ! (stop !)) (look ! 10 refl)) (and-then ! (load ! (from ! (fld ! refl (stop !))) (look-in ! 20 (sub ! 4 refl (whole !)))) (and-then ! (load ! (from ! (fld ! refl (fld ! refl (stop !)))) (look-in ! 20 (sub ! 1 refl (sub ! 1 refl (whole !))))) (and-then ! (load ! (from ! (stop !)) (look ! 6 refl)) (no-more !)))))) (λ u₁ zs gave₁ len.
+      land ! (from ! (stop !)) (init ! 14 refl (nothing-lawful 𝓤 H A W .typed (gave₁ .0) (u₁ ∷ []) (gave₁ .1 .1) .0)) $ move ! (3 ∷ 4 ∷ 5 ∷ []) $ two-back ! tt tablesK placesK tt tt (p .plan .tables) (p .plan .chosen) l₆ l₇ ν $ move ! (4 ∷ []) $ drop ! $ move ! (2 ∷ 3 ∷ []) $
       -- self = stored(self, p.number, p.found, p.order)
       calls-by-value ! (fmOf 𝓤 H (W .laws) 𝓣) (Result (caseK .row) (λ k. k ≡ storing c (p .number) (p .found) (p .order)))
       (stored-says 𝓤 H A mem run W (𝓣 .C) (fmOf 𝓤 H (W .laws) 𝓣) (known .stored) c (p .number) (p .found) (p .order) c-ok (ok .number-fits) (ok .found-ok) (ok .order-ok))
-      (and-then ! (load ! (from ! (stop !)) (look ! 26 refl)) (and-then ! (load ! (from ! (fld ! refl (stop !))) (look-in ! 18 (sub ! 0 refl (whole !)))) (and-then ! (load ! (from ! (fld ! refl (stop !))) (look-in ! 18 (sub ! 1 refl (whole !)))) (and-then ! (load ! (from ! (fld ! refl (stop !))) (look-in ! 18 (sub ! 2 refl (whole !)))) (no-more !))))) (λ u₂ gave₂.
+      (and-then ! (load ! (from ! (stop !)) (look ! 26 refl)) (and-then ! (load ! (from ! (fld ! refl (stop !))) (look-in ! 18 (sub ! 0 refl (whole !)))) (and-then ! (load ! (from ! (fld ! refl (stop !))) (look-in ! 18 (sub ! 2 refl (whole !)))) (and-then ! (load ! (from ! (fld ! refl (stop !))) (look-in ! 18 (sub ! 3 refl (whole !)))) (no-more !))))) (λ u₂ gave₂.
       let k : Case = gave₂ .0 in let k-ok : Good caseK k = good caseK k u₂ (gave₂ .1 .1) in
       land ! (from ! (stop !)) (store ! 26 refl (typed caseK 𝓤 H A W k u₂ (gave₂ .1 .1) .0)) $ rewrite ! 26 (λ (w : Val). ‵ (fat fullShare C′.mir l₁ 0 w)) (val-is caseK k u₂ (gave₂ .1 .1)) refl $
       -- answer(self, p.number, p.found, p.order, p.left)
       calls-by-value ! (fmOf 𝓤 H (W .laws) 𝓣) (Result (decisionK .row) (λ x. x ≡ answering k (p .number) (p .found) (p .order) (p .left)))
       (answer-says 𝓤 H A mem run W (𝓣 .C) (fmOf 𝓤 H (W .laws) 𝓣) (known .answer) k (p .number) (p .found) (p .order) (p .left) k-ok (ok .number-fits) (ok .found-ok) (ok .order-ok) (ok .left-fits))
-      (and-then ! (load ! (from ! (stop !)) (look ! 26 refl)) (and-then ! (load ! (from ! (fld ! refl (stop !))) (look-in ! 18 (sub ! 0 refl (whole !)))) (and-then ! (load ! (from ! (fld ! refl (stop !))) (look-in ! 18 (sub ! 1 refl (whole !)))) (and-then ! (load ! (from ! (fld ! refl (stop !))) (look-in ! 18 (sub ! 2 refl (whole !)))) (and-then ! (load ! (from ! (fld ! refl (stop !))) (look-in ! 18 (sub ! 4 refl (whole !)))) (no-more !)))))) (λ u₃ gave₃.
+      (and-then ! (load ! (from ! (stop !)) (look ! 26 refl)) (and-then ! (load ! (from ! (fld ! refl (stop !))) (look-in ! 18 (sub ! 0 refl (whole !)))) (and-then ! (load ! (from ! (fld ! refl (stop !))) (look-in ! 18 (sub ! 2 refl (whole !)))) (and-then ! (load ! (from ! (fld ! refl (stop !))) (look-in ! 18 (sub ! 3 refl (whole !)))) (and-then ! (load ! (from ! (fld ! refl (stop !))) (look-in ! 18 (sub ! 4 refl (whole !)))) (no-more !)))))) (λ u₃ gave₃.
       let x : Decision = gave₃ .0 in let x-ok : Good decisionK x = good decisionK x u₃ (gave₃ .1 .1) in
       land ! (from ! (stop !)) (init ! 28 refl (typed decisionK 𝓤 H A W x u₃ (gave₃ .1 .1) .0)) $ rewrite ! 28 (λ (w : Val). ‵ (fat fullShare D′.mir l₀ 0 w)) (val-is decisionK x u₃ (gave₃ .1 .1)) refl $
       returns ! (look ! 28 refl) $ forget ! 2 refl $ forget ! 3 refl $ forget ! 4 refl $ forget ! 6 refl $ forget ! 8 refl $ forget ! 10 refl $ forget ! 12 refl $ forget ! 14 refl $ forget ! 18 refl $ forget ! 20 refl $ forget ! 22 refl $ forget ! 24 refl $ forget ! 26 refl $ forget ! 28 refl $

@@ -137,25 +137,25 @@ module _ {M : Type 1} (𝓤 : URA M) (H : Heap 𝓤) (A : Atoms 𝓤) (W : Given
     written : (p : Planning) (test : Val) → PlanningOk p → Plans c e pruning (length ys) (length ws) p → p .number ≡ 0 → Sq W (Decided p (‵ (fat fullShare tyBool l₁₂ 0 test))) (runs C Λ En body.t-6 (atRet En Post))
     written p test ok plans zero-number =
         -- [the list; its token; the row words; their token; _19 at 4; _18 at 6; _17 at 8; _16 at 10; _15 at 12; _14 at 14; _13 at 16; _12 at 18; _11 at 20; _10 at 22; _9 at 24; _8 at 26; _7 at 28; _6 at 30; _5 at 32; _4 at 34; _3 at 36; _2 at 38; _1 at 40; _0 at 42]
-        assigns ! (of-opd ! (load ! (from ! (fld ! refl (stop !))) (look-in ! 30 (sub ! 1 refl (whole !))))) (from ! (stop !)) (init ! 28 refl (typed tablesK 𝓤 H A W (p .tables) _ (ok .tables-ok) .0)) $
-        assigns ! (of-opd ! (load ! (from ! (fld ! refl (stop !))) (look-in ! 30 (sub ! 2 refl (whole !))))) (from ! (stop !)) (init ! 26 refl (typed placesK 𝓤 H A W (p .chosen) _ (ok .chosen-ok) .0)) $
+        assigns ! (of-opd ! (load ! (from ! (fld ! refl (fld ! refl (stop !)))) (look-in ! 30 (sub ! 0 refl (sub ! 1 refl (whole !)))))) (from ! (stop !)) (init ! 28 refl (typed tablesK 𝓤 H A W (p .plan .tables) _ (ok .plan-ok .tables-ok) .0)) $
+        assigns ! (of-opd ! (load ! (from ! (fld ! refl (fld ! refl (stop !)))) (look-in ! 30 (sub ! 2 refl (sub ! 1 refl (whole !)))))) (from ! (stop !)) (init ! 26 refl (typed placesK 𝓤 H A W (p .plan .chosen) _ (ok .plan-ok .chosen-ok) .0)) $
         assigns ! (addr ! (from ! (stop !))) (from ! (stop !)) (init ! 16 refl (tt, tt)) $
         assigns ! (addr ! (from ! (stop !))) (from ! (stop !)) (init ! 14 refl (tt, tt)) $
         assigns ! (addr ! (from ! (fld ! refl (hop ! (look-in ! 34 (sub ! 0 refl (whole !))) (stop !))))) (from ! (stop !)) (init ! 12 refl (tt, tt)) $
         assigns ! (agg ! (and-then ! (load ! (from ! (stop !)) (look ! 12 refl)) (and-then ! (load ! (from ! (fld ! refl (stop !))) (look-in ! 34 (sub ! 1 refl (whole !)))) (no-more !)))) (from ! (stop !)) (init ! 10 refl (tt, (tt, (record { fits = room .0 }, tt)))) $
         -- the tables and the numbers are lent for the call
-        move ! (28 ∷ 26 ∷ []) $ lends-two ! tt tablesK placesK tt tt (named 0) (p .tables) (p .chosen) l₇ l₈ (ok .tables-ok) (ok .chosen-ok) (λ ν δ δ′.
-        let r₀ : RefT (List ℕ) = shared l₇ δ (p .tables) in let r₁ : RefT (List ℕ) = shared l₈ δ′ (p .chosen) in
+        move ! (28 ∷ 26 ∷ []) $ lends-two ! tt tablesK placesK tt tt (named 0) (p .plan .tables) (p .plan .chosen) l₇ l₈ (ok .plan-ok .tables-ok) (ok .plan-ok .chosen-ok) (λ ν δ δ′.
+        let r₀ : RefT (List ℕ) = shared l₇ δ (p .plan .tables) in let r₁ : RefT (List ℕ) = shared l₈ δ′ (p .plan .chosen) in
         move ! (4 ∷ 5 ∷ 0 ∷ 1 ∷ []) $
         -- [the list; its token; the two references; their token; the lender's two parts; the row words; their token; _19 at 8; ..; _9 at 28; _6 at 32; ..; _0 at 44]
-        -- r = write(&tables, &chosen, p.rows, p.count, pruning, list)
-        calls-both ! (fmOf 𝓤 H (W .laws) 𝓣) R (named 0) (named 1) κ₀ q₀ γ b o (length ys) ys refl room (Lent₂ (named 0) (ν ∷ []) r₀ r₁) (lent-twice 𝓤 H A W (named 0) (ν ∷ []) r₀ r₁) (ν ∷ []) fullShare (Answer (prunedK .row) (Writes (p .tables) (p .chosen) (p .rows) (p .count) pruning ys))
-        (write-left 𝓤 H A mem run W C (fmOf 𝓤 H (W .laws) 𝓣) (known .write) b o (length ys) ys refl (ν ∷ []) fullShare r₀ r₁ (p .rows) (p .count) pruning (ok .rows-ok) (ok .count-fits) p-fits (plans .ready zero-number))
-        (λ i j x y. and-then ! (load ! (from ! (stop !)) (look ! 20 refl)) (and-then ! (load ! (from ! (stop !)) (look ! 18 refl)) (and-then ! (load ! (from ! (fld ! refl (stop !))) (look-in ! 32 (sub ! 3 refl (whole !)))) (and-then ! (load ! (from ! (fld ! refl (stop !))) (look-in ! 32 (sub ! 4 refl (whole !)))) (and-then ! (load ! (from ! (stop !)) (look ! 38 refl)) (and-then ! (load ! (from ! (stop !)) (look ! 14 refl)) (no-more !))))))) (λ u zs gave len.
+        -- r = write(&tables, &chosen, p.rows, p.plan.count, pruning, list)
+        calls-both ! (fmOf 𝓤 H (W .laws) 𝓣) R (named 0) (named 1) κ₀ q₀ γ b o (length ys) ys refl room (Lent₂ (named 0) (ν ∷ []) r₀ r₁) (lent-twice 𝓤 H A W (named 0) (ν ∷ []) r₀ r₁) (ν ∷ []) fullShare (Answer (prunedK .row) (Writes (p .plan .tables) (p .plan .chosen) (p .rows) (p .plan .count) pruning ys))
+        (write-left 𝓤 H A mem run W C (fmOf 𝓤 H (W .laws) 𝓣) (known .write) b o (length ys) ys refl (ν ∷ []) fullShare r₀ r₁ (p .rows) (p .plan .count) pruning (ok .rows-ok) (ok .plan-ok .count-fits) p-fits (plans .ready zero-number))
+        (λ i j x y. and-then ! (load ! (from ! (stop !)) (look ! 20 refl)) (and-then ! (load ! (from ! (stop !)) (look ! 18 refl)) (and-then ! (load ! (from ! (fld ! refl (stop !))) (look-in ! 32 (sub ! 2 refl (whole !)))) (and-then ! (load ! (from ! (fld ! refl (fld ! refl (stop !)))) (look-in ! 32 (sub ! 1 refl (sub ! 1 refl (whole !))))) (and-then ! (load ! (from ! (stop !)) (look ! 38 refl)) (and-then ! (load ! (from ! (stop !)) (look ! 14 refl)) (no-more !))))))) (λ u zs gave len.
         let r : Pruned = gave .0 in let r-parts = of-pruned r u (gave .1 .1) in
         land ! (from ! (stop !)) (init ! 28 refl (typed prunedK 𝓤 H A W r u (gave .1 .1) .0)) $ rewrite ! 28 (λ (w : Val). ‵ (fat fullShare D′.mir l₉ 0 w)) (val-is prunedK r u (gave .1 .1)) refl $
         -- the two locals are had back: [the list; its token; the row words; their token; _7 at 4; _8 at 5; _19 at 6; ..; _0 at 42]
-        move ! (3 ∷ 4 ∷ 5 ∷ []) $ two-back ! tt tablesK placesK tt tt (p .tables) (p .chosen) l₇ l₈ ν $ move ! (4 ∷ []) $ drop ! $ move ! (2 ∷ 3 ∷ 4 ∷ 5 ∷ []) $
+        move ! (3 ∷ 4 ∷ 5 ∷ []) $ two-back ! tt tablesK placesK tt tt (p .plan .tables) (p .plan .chosen) l₇ l₈ ν $ move ! (4 ∷ []) $ drop ! $ move ! (2 ∷ 3 ∷ 4 ∷ 5 ∷ []) $
         -- copy_rows(r.rows, rows): the row words and their token are brought to the front for the call, and put back
         assigns ! (addr ! (from ! (fld ! refl (hop ! (look-in ! 32 (sub ! 0 refl (whole !))) (stop !))))) (from ! (stop !)) (init ! 8 refl (tt, tt)) $
         assigns ! (agg ! (and-then ! (load ! (from ! (stop !)) (look ! 8 refl)) (and-then ! (load ! (from ! (fld ! refl (stop !))) (look-in ! 32 (sub ! 1 refl (whole !)))) (no-more !)))) (from ! (stop !)) (init ! 6 refl (tt, (tt, (record { fits = room₁ .0 }, tt)))) $

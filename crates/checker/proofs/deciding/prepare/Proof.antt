@@ -19,7 +19,7 @@ nothing-requires c κs = search needs
 returns : tie.Need-returns
 returns c =
     let a = c .before .before .before .args in
-    fresh-finds (a .c) (a .encoding) (a .pruning) (a .places) _ _ _ (sym (c .before .before .is-fresh .ensures) ∙ c .before .if1 .taken) (c .nothing .ensures)
+    fresh-finds (a .c) (a .encoding) (a .pruning) (a .places) _ _ _ _ (sym (c .before .before .is-fresh .ensures) ∙ c .before .if1 .taken) (c .nothing .ensures)
 
 array-share-prefix-bytes : tie.Need-array-share-prefix-bytes
 array-share-prefix-bytes c = log-fits _ _ (case-holds (c .before .before .before .args .c) (sym (c .before .before .is-fresh .ensures) ∙ c .before .if1 .left))
@@ -34,7 +34,7 @@ decided-requires c κs =
 returns-2 : tie.Need-returns-2
 returns-2 c =
     let a = c .before .before .before .before .before .before .before .before .args in
-    held-finds (a .c) (a .encoding) (a .pruning) (a .places) _ _ _ (sym (c .before .before .before .before .before .before .before .is-fresh .ensures) ∙ c .before .before .before .before .before .before .if1 .left) (c .before .decided .ensures)
+    held-finds (a .c) (a .encoding) (a .pruning) (a .places) _ _ _ _ (sym (c .before .before .before .before .before .before .before .is-fresh .ensures) ∙ c .before .before .before .before .before .before .if1 .left) (c .before .decided .ensures)
 
 pub prepare-spec : {M : Type 1} → statement M
 prepare-spec =

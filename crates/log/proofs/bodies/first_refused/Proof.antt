@@ -9,10 +9,10 @@ use Rattle.log.proofs.bodies.first_refused.Statement.{statement}
 use Rattle.log.proofs.bodies.first_refused.Tie as tie
 
 abbrev Inv-loop : tie.InvT-loop
-Inv-loop log n t₀ t = (t ≤ n) × (firstNumber (bodiesNumber log) t ≡ 0)
+Inv-loop log n good t₀ t = (t ≤ n) × (firstNumber (bodiesNumber log) t ≡ 0)
 
 abbrev μ-loop : tie.MeasureT-loop
-μ-loop log n t₀ t = n - t
+μ-loop log n good t₀ t = n - t
 
 loop-holds : tie.Need-loop-holds Inv-loop μ-loop
 loop-holds c = (omega arith, bodies-start _)
