@@ -144,7 +144,7 @@ fn head(columns: &str) {
 /// Windows of a kind with so many transactions.
 struct Set {
     kind: Kind,
-    name: &'static str,
+    name: String,
     count: usize,
     logs: Vec<Vec<u8>>,
     orders: usize,
@@ -246,14 +246,16 @@ fn time_solver(sets: &[Set], solver: &Solver, trivial: &PathBuf) {
     }
 }
 
-fn time_full(full: &[Vec<u8>], tuned: &mut Tuned) {
-    println!("\nFull windows: 1,156 bytes, T = 32, N = 256, 8 keys, of a serial run. {} windows, the best of {ROUNDS} calls each.\n", full.len());
+fn time_full(full: &[Vec<u8>], backed: &[Vec<u8>], tuned: &mut Tuned) {
+    println!("\nFull windows: 1,156 bytes, T = 32, N = 256, 8 keys, of a serial run. {} windows, the best of {ROUNDS} calls each.", full.len());
+    println!("Those read back have 160 operations and read-backs of their writes, up to 256 in all.\n");
     head("| call | constraints before | left | mean | 99th | worst |");
     let row = |name: &str, counts: &str, times: &Times| println!("| {name} | {counts} | {} |", times.cells());
     let (mut order, mut table) = ([0; 32], [0; 64]);
     let mut by_tuned = |_: usize, log: &[u8]| tuned.decide(log, &mut order, &mut table);
     if !library::PRESENT {
         row("decide, tuned Rust", "- | -", &interleaved(full, &mut [&mut by_tuned])[0]);
+        row("decide, tuned Rust, read back", "- | -", &interleaved(backed, &mut [&mut by_tuned])[0]);
         return;
     }
     let (mut order, mut table) = ([0; 32], [0; 64]);
@@ -261,16 +263,21 @@ fn time_full(full: &[Vec<u8>], tuned: &mut Tuned) {
     let times = interleaved(full, &mut [&mut by_library, &mut by_tuned]);
     row("decide", "- | -", &times[0]);
     row("decide, tuned Rust", "- | -", &times[1]);
+    let times = interleaved(backed, &mut [&mut by_library, &mut by_tuned]);
+    row("decide, read back", "- | -", &times[0]);
+    row("decide, tuned Rust, read back", "- | -", &times[1]);
 
     let mut refused = full.to_vec();
     refused.iter_mut().for_each(|log| log[1152] = 2);
     refused.iter().for_each(|log| same("a bad kind and its number", log, &7, &by_library(0, log)));
     row("load, refused at the last body", "- | -", &interleaved(&refused, &mut [&mut by_library])[0]);
 
-    let orders: Vec<Answer> = full.iter().map(|log| crate::by_library(log, 2, 1)).collect();
-    let mut check = |i: usize, log: &[u8]| library::check(log, &orders[i].order[..32]);
-    full.iter().enumerate().for_each(|(i, log)| same("order and check", log, &0, &check(i, log)));
-    row("check of the legal order", "- | -", &interleaved(full, &mut [&mut check])[0]);
+    for (name, logs) in [("check of the legal order", full), ("check of the legal order, read back", backed)] {
+        let orders: Vec<Answer> = logs.iter().map(|log| crate::by_library(log, 2, 1)).collect();
+        let mut check = |i: usize, log: &[u8]| library::check(log, &orders[i].order[..32]);
+        logs.iter().enumerate().for_each(|(i, log)| same("order and check", log, &0, &check(i, log)));
+        row(name, "- | -", &interleaved(logs, &mut [&mut check])[0]);
+    }
 
     let mut out = vec![0; ROOM];
     for (encoding, pruning) in selftest::SETTINGS {
@@ -313,18 +320,28 @@ fn main() {
             let mut dice = Dice::new((count * 10 + k) as u64);
             let many = if count == 32 { 10_000 } else { 2_000 } / share;
             let logs: Vec<Vec<u8>> = (0..many).map(|_| windows::log(&windows::window(kind, count, &mut dice))).collect();
-            let questions = logs.iter().take(if solvers.is_empty() { 0 } else { asked }).enumerate();
-            let files = questions.map(|(i, log)| write(format!("{count}-{k}-{i}.cnf"), solver::question(log))).collect();
-            sets.push(Set { kind, name, count, logs, orders: 0, gave_up: 0, files });
+            sets.push(Set { kind, name: name.into(), count, logs, orders: 0, gave_up: 0, files: Vec::new() });
         }
+    }
+    // the windows of 32 transactions again, with read-backs from dice of their own
+    for (k, (kind, name)) in KINDS.into_iter().enumerate() {
+        let (mut dice, mut backs) = (Dice::new((320 + k) as u64), Dice::new((5000 + k) as u64));
+        let logs = (0..10_000 / share).map(|_| windows::log(&windows::backed(kind, 32, &mut dice, &mut backs))).collect();
+        sets.push(Set { kind, name: format!("{name}, read back"), count: 32, logs, orders: 0, gave_up: 0, files: Vec::new() });
+    }
+    for (s, set) in sets.iter_mut().enumerate() {
+        let questions = set.logs.iter().take(if solvers.is_empty() { 0 } else { asked }).enumerate();
+        set.files = questions.map(|(i, log)| write(format!("{s}-{i}.cnf"), solver::question(log))).collect();
     }
     let mut dice = Dice::new(1);
     let full: Vec<Vec<u8>> = (0..1_000 / share).map(|_| windows::log(&windows::full(&mut dice))).collect();
+    let mut dice = Dice::new(6);
+    let backed: Vec<Vec<u8>> = (0..1_000 / share).map(|_| windows::log(&windows::full_backed(&mut dice))).collect();
 
     sets.iter_mut().for_each(|set| compare(set, &mut tuned, &solvers));
     if library::PRESENT {
         let mut out = vec![0; ROOM];
-        for log in full.iter().take(200) {
+        for log in full.iter().take(200).chain(backed.iter().take(200)) {
             same("checker and tuned Rust", log, &by_library(log, 2, 1), &by_tuned(&mut tuned, log));
             selftest::SETTINGS.iter().for_each(|&(encoding, pruning)| same_polygraph(log, encoding, pruning, &mut out));
         }
@@ -332,7 +349,7 @@ fn main() {
     println!("{} windows: verdict, order and table are the same in all programs.\n", figure(sets.iter().map(|s| s.logs.len()).sum::<usize>() as f64));
 
     time_decisions(&sets, &mut tuned);
-    time_full(&full, &mut tuned);
+    time_full(&full, &backed, &mut tuned);
     time_placement(&sets);
     let trivial = write("trivial.cnf".into(), solver::TRIVIAL.into());
     solvers.iter().for_each(|solver| time_solver(&sets, solver, &trivial));

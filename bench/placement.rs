@@ -71,10 +71,12 @@ pub fn decide(log: &[u8], order: &mut [u8], table: &mut [u8]) -> Placed {
         last[cabinet] = 1 << t;
         for _ in 0..entry[1] {
             let argument = u16::from_le_bytes([log[body + 2], log[body + 3]]);
-            if log[body] == 0 {
-                one.reads.push((log[body + 1], argument));
-            } else {
-                one.writes.push((log[body + 1], argument));
+            let key = log[body + 1];
+            if log[body] == 1 {
+                one.writes.push((key, argument));
+            } else if one.writes.iter().all(|&(written, _)| written != key) {
+                // a read of a key written before is a read-back: that write explains it
+                one.reads.push((key, argument));
             }
             body += 4;
         }

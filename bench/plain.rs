@@ -1,4 +1,4 @@
-//! Document 01 taken word by word, with no thought for speed: what the other programs are compared with.
+//! Document 01 and card 1 taken word by word, with no thought for speed: what the other programs are compared with.
 
 pub const START: usize = 65535;
 
@@ -59,9 +59,11 @@ pub fn number(log: &[u8]) -> u32 {
         return 6;
     }
     let body = |i: usize| &log[4 + 4 * t_count + 4 * i..][..4];
+    let alike = |i: usize, j: usize| owner[j] == owner[i] && body(j)[1] == body(i)[1];
+    // a write of the key stands before body i in its transaction
+    let behind = |i: usize| (0..i).any(|j| alike(i, j) && body(j)[0] == 1);
     for i in 0..n_count {
         let (kind, key, argument) = (body(i)[0], body(i)[1], two(4 + 4 * t_count + 4 * i + 2));
-        let earlier = |kind: u8| (0..i).any(|j| owner[j] == owner[i] && body(j)[0] == kind && body(j)[1] == key);
         if kind > 1 {
             return 7;
         }
@@ -71,10 +73,10 @@ pub fn number(log: &[u8]) -> u32 {
         if kind == 0 && argument >= t_count && argument != START {
             return 9;
         }
-        if earlier(kind) {
+        if (0..i).any(|j| alike(i, j) && body(j)[0] == kind && (kind == 1 || behind(j) == behind(i))) {
             return 10;
         }
-        if kind == 0 && earlier(1) {
+        if kind == 0 && behind(i) && argument != owner[i] {
             return 11;
         }
     }
@@ -104,13 +106,20 @@ impl History {
         (0..self.count()).filter(|&t| self.writes(t, key)).collect()
     }
 
+    /// The reads of t, without its read-backs: no write of the key stands before such a read in its transaction.
+    fn reads(&self, t: usize) -> impl Iterator<Item = &Body> {
+        let bodies = &self.0[t].1;
+        let behind = |i: usize| bodies[..i].iter().any(|w| w.write && w.key == bodies[i].key);
+        (0..bodies.len()).filter(move |&i| !bodies[i].write && !behind(i)).map(|i| &bodies[i])
+    }
+
     fn good(&self, t: usize, body: &Body) -> bool {
-        !body.write && body.argument != START && body.argument != t && self.writes(body.argument, body.key)
+        body.argument != START && body.argument != t && self.writes(body.argument, body.key)
     }
 
     /// Readers(w), as a mask.
     fn readers(&self, key: usize, w: usize) -> u32 {
-        let reads = |&t: &usize| self.0[t].1.iter().any(|b| b.key == key && self.good(t, b) && b.argument == w);
+        let reads = |&t: &usize| self.reads(t).any(|b| b.key == key && self.good(t, b) && b.argument == w);
         (0..self.count()).filter(reads).fold(0, |mask, t| mask | 1 << t)
     }
 
@@ -136,7 +145,7 @@ impl History {
             if order[..place].iter().any(|&u| self.0[u].0 == self.0[t].0 && u > t) {
                 return None;
             }
-            if self.0[t].1.iter().any(|b| !b.write && (latest[b.key] != b.argument || b.argument == t)) {
+            if self.reads(t).any(|b| latest[b.key] != b.argument || b.argument == t) {
                 return None;
             }
             for b in self.0[t].1.iter().filter(|b| b.write) {
@@ -169,7 +178,7 @@ impl History {
             if let Some(next) = (t + 1..count).find(|&v| self.0[v].0 == self.0[t].0) {
                 rows[t] |= 1 << next;
             }
-            for b in self.0[t].1.iter().filter(|b| !b.write) {
+            for b in self.reads(t) {
                 if self.good(t, b) {
                     rows[b.argument] |= 1 << t;
                 } else if b.argument == START {
@@ -181,7 +190,7 @@ impl History {
         }
         if encoding == 0 {
             for t in 0..count {
-                for b in self.0[t].1.iter().filter(|b| self.good(t, b)) {
+                for b in self.reads(t).filter(|b| self.good(t, b)) {
                     for v in self.writers(b.key).into_iter().filter(|&v| v != b.argument && v != t) {
                         list.push(Constraint { a: Side { sources: 1 << t, target: v }, b: Side { sources: 1 << v, target: b.argument } });
                     }

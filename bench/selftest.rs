@@ -1,8 +1,8 @@
-//! Are the programs that the checker is held against right? Against all permutations, document 01's histories, and its words.
+//! Are the programs that the checker is held against right? Against all permutations, document 01's histories, and the words of document 01 and card 1.
 
 use crate::tuned::Tuned;
 use crate::windows::{self, Dice, Kind, KINDS};
-use crate::{by_library, by_placement, by_tuned, library, plain, same, same_polygraph, Answer};
+use crate::{by_library, by_placement, by_tuned, library, plain, same, same_polygraph, Answer, ROOM};
 
 pub const SETTINGS: [(u8, u8); 6] = [(0, 0), (0, 1), (1, 0), (1, 1), (2, 0), (2, 1)];
 
@@ -15,14 +15,20 @@ fn right(history: &plain::History, first: Option<Vec<usize>>) -> Answer {
     answer
 }
 
-/// Small histories against a search through all permutations; every program, in every setting where it has them.
-fn permutations(tuned: &mut Tuned) {
+/// Small histories against a search through all permutations; every program, in every setting where it has them. `backs` is the seed by which writes are
+/// read back; with 0 none is.
+fn permutations(tuned: &mut Tuned, backs: u64) {
     let mut dice = Dice::new(2);
+    let mut back = Dice::new(backs);
     let mut orders = 0;
     let many = 20_000;
     let mut out = vec![0; 2000];
     for _ in 0..many {
-        let log = windows::log(&windows::small(&mut dice));
+        let mut transactions = windows::small(&mut dice);
+        if backs != 0 {
+            windows::read_back(&mut transactions, 2, &mut back);
+        }
+        let log = windows::log(&transactions);
         let history = plain::history(&log);
         let answer = right(&history, history.first_of_all());
         orders += (answer.number == 0) as usize;
@@ -40,7 +46,41 @@ fn permutations(tuned: &mut Tuned) {
             }
         }
     }
-    println!("{many} small histories against all permutations: {orders} with an order, {} without; all the same", many - orders);
+    let with = if backs == 0 { "" } else { " with read-backs" };
+    println!("{many} small histories{with} against all permutations: {orders} with an order, {} without; all the same", many - orders);
+}
+
+/// Windows with read-backs against the same windows without, and against the words: every program gives the same answer to both.
+fn backed(tuned: &mut Tuned) {
+    let (mut many, mut found) = (0, 0);
+    let mut out = vec![0; ROOM];
+    for count in [5, 8, 16, 24, 32] {
+        for (k, (kind, _)) in KINDS.into_iter().enumerate() {
+            let seed = (2000 + count * 10 + k) as u64;
+            let (mut dice, mut again, mut backs) = (Dice::new(seed), Dice::new(seed), Dice::new(seed + 1000));
+            for i in 0..200 {
+                let without = windows::log(&windows::window(kind, count, &mut dice));
+                let log = windows::log(&windows::backed(kind, count, &mut again, &mut backs));
+                same("a window with read-backs and its number", &log, &plain::number(&log), &0);
+                let answer = by_tuned(tuned, &log);
+                same("a window with read-backs and the same without", &log, &answer, &by_tuned(tuned, &without));
+                if i < 10 {
+                    let history = plain::history(&log);
+                    same("read-backs and plain walks", &log, &right(&history, history.first_by_walks(i % 3)), &answer);
+                }
+                let bytes = |log: &[u8], (encoding, pruning)| plain::history(log).polygraph(encoding, pruning).bytes();
+                let setting = SETTINGS[i as usize % 6];
+                same("the polygraph with read-backs and the one without", &log, &bytes(&log, setting), &bytes(&without, setting));
+                if library::PRESENT {
+                    same("checker and tuned Rust, read-backs", &log, &by_library(&log, 2, 1), &answer);
+                    same_polygraph(&log, setting.0, setting.1, &mut out);
+                }
+                many += 1;
+                found += (log.len() > without.len()) as usize;
+            }
+        }
+    }
+    println!("{many} windows, {found} of them with read-backs: the same answers and polygraphs as without");
 }
 
 /// Whole windows against walks from nothing at each place.
@@ -83,14 +123,17 @@ fn returns(tuned: &mut Tuned) {
     println!("{many} windows of few reads, many stale: the walk returned to a choice in {found}; all the same as plain walks in three encodings");
 }
 
-/// Logs with a few bytes changed: the number of each.
-fn numbers(tuned: &mut Tuned) {
+/// Logs with a few bytes changed: the number of each. `backs` is the seed by which writes are read back; with 0 none is.
+fn numbers(tuned: &mut Tuned, backs: u64) {
     let mut dice = Dice::new(3);
+    let mut back = Dice::new(backs);
     let mut seen = [0; 12];
     let many = 100_000;
     for i in 0..many {
         let kind = KINDS[i % KINDS.len()].0;
-        let mut log = windows::log(&windows::window(kind, dice.below(33), &mut dice));
+        let count = dice.below(33);
+        let transactions = if backs == 0 { windows::window(kind, count, &mut dice) } else { windows::backed(kind, count, &mut dice, &mut back) };
+        let mut log = windows::log(&transactions);
         for _ in 0..1 + dice.below(3) {
             match dice.below(6) {
                 0 => log.truncate(dice.below(log.len() + 1)),
@@ -121,15 +164,17 @@ fn numbers(tuned: &mut Tuned) {
             same("checker and tuned Rust", &log, &by_library(&log, 2, 1), &answer);
         }
     }
-    println!("{many} logs with changed bytes: as document 01 numbers them; taken {}, refused by number 1 to 11: {:?}", seen[0], &seen[1..]);
+    let with = if backs == 0 { "" } else { " with read-backs and" };
+    println!("{many} logs{with} with changed bytes: as document 01 numbers them; taken {}, refused by number 1 to 11: {:?}", seen[0], &seen[1..]);
 }
 
-/// The library's calls on full windows: what they refuse besides a log, what they leave, and what check says of orders with two places exchanged.
+/// The library's calls on full windows, every second with read-backs: what they refuse besides a log, what they leave, and what check says of orders with
+/// two places exchanged.
 fn calls(tuned: &mut Tuned) {
     let mut dice = Dice::new(5);
     let (mut legal, mut not) = (0, 0);
-    for _ in 0..200 {
-        let log = windows::log(&windows::full(&mut dice));
+    for i in 0..200 {
+        let log = windows::log(&if i % 2 == 0 { windows::full(&mut dice) } else { windows::full_backed(&mut dice) });
         let right = by_tuned(tuned, &log);
         let decide = |encoding: u8, pruning: u8, order_len: usize, table_len: usize| {
             let mut answer = Answer::blank(0);
@@ -172,35 +217,47 @@ fn calls(tuned: &mut Tuned) {
         }
         order[7] = order[8];
         same("check and a number twice", &log, &library::check(&log, &order), &13);
-        same("check of a refused log", &log, &library::check(&log[..1155], &order), &3);
-        same("encode of a refused log", &log, &library::encode(&log[..1155], 9, 9, &mut []), &3);
+        let short = &log[..log.len() - 1];
+        same("check of a refused log", &log, &library::check(short, &order), &3);
+        same("encode of a refused log", &log, &library::encode(short, 9, 9, &mut []), &3);
     }
     println!("the calls on 200 full windows: buffers, settings and 4000 orders ({legal} legal, {not} not) as document 01 says");
 }
 
-/// Document 01's histories C, D and E: the constraints by encoding.
+/// Document 01's histories C, D and E, and E with read-backs: the constraints by encoding. F with a read-back has no order, and the edge 0→0.
 fn counts() {
-    let histories: [(&str, &[&[(bool, usize)]], [usize; 4]); 3] = [
+    let histories: [(&str, &[&[(bool, usize)]], [usize; 4]); 4] = [
         ("C", &[&[(true, 1)], &[(true, 2)]], [0, 1, 1, 1]),
         ("D", &[&[(true, 1)], &[(true, 2)], &[(false, 0)], &[(false, 0)], &[(false, 1)]], [3, 1, 1, 1]),
         ("E", &[&[(true, 1)], &[(false, 0), (true, 2)], &[(true, 3)], &[(false, 2), (true, 4)]], [4, 6, 1, 4]),
+        (
+            "E with read-backs",
+            &[&[(true, 1), (false, 0)], &[(false, 0), (true, 2), (false, 1)], &[(true, 3), (false, 2)], &[(false, 2), (true, 4), (false, 3)]],
+            [4, 6, 1, 4],
+        ),
     ];
+    let bodies = |t: &[(bool, usize)]| t.iter().map(|&(write, argument)| plain::Body { write, key: 0, argument }).collect();
     for (name, transactions, right) in histories {
-        let bodies = |t: &[(bool, usize)]| t.iter().map(|&(write, argument)| plain::Body { write, key: 0, argument }).collect();
         let history = plain::History(transactions.iter().enumerate().map(|(t, b)| (t as u8, bodies(b))).collect());
         let count = |encoding, pruning| history.polygraph(encoding, pruning).list.len();
         same(&format!("history {name} and its counts"), &[], &[count(0, 0), count(1, 0), count(2, 0), count(1, 1)], &right);
     }
-    println!("histories C, D and E have document 01's counts");
+    let f = plain::History(vec![(0, bodies(&[(false, 0), (true, 5), (false, 0)]))]);
+    same("history F with a read-back and its order", &[], &f.first_of_all(), &None);
+    same("history F with a read-back and its edge", &[], &f.polygraph(0, 0).rows[0], &1);
+    println!("histories C, D and E have document 01's counts, E with read-backs those of E, and F with a read-back has no order");
 }
 
 pub fn run() {
     let mut tuned = Tuned::new();
     counts();
-    permutations(&mut tuned);
+    permutations(&mut tuned, 0);
+    permutations(&mut tuned, 6);
     walks(&mut tuned);
+    backed(&mut tuned);
     returns(&mut tuned);
-    numbers(&mut tuned);
+    numbers(&mut tuned, 0);
+    numbers(&mut tuned, 7);
     if library::PRESENT {
         calls(&mut tuned);
     } else {

@@ -227,10 +227,10 @@ fn two(log: &[u8], at: usize) -> usize {
 #[cold]
 fn refusal(entries: &[u8], bodies: &[u8]) -> u32 {
     let mut rest = bodies;
-    for entry in entries.chunks_exact(4) {
+    for (t, entry) in entries.chunks_exact(4).enumerate() {
         let (own, later) = rest.split_at(4 * entry[1] as usize);
         rest = later;
-        let (mut has_read, mut has_written) = (0u32, 0u32);
+        let (mut has_read, mut has_written, mut has_back) = (0u32, 0u32, 0u32);
         for body in own.chunks_exact(4) {
             let (kind, key, argument) = (body[0], body[1], two(body, 2));
             if kind > 1 {
@@ -242,12 +242,17 @@ fn refusal(entries: &[u8], bodies: &[u8]) -> u32 {
             if kind == 0 && argument >= entries.len() / 4 && argument != 65535 {
                 return 9;
             }
-            let has = if kind == 0 { &mut has_read } else { &mut has_written };
+            let back = kind == 0 && has_written >> key & 1 == 1;
+            let has = match (kind, back) {
+                (1, _) => &mut has_written,
+                (_, true) => &mut has_back,
+                (_, false) => &mut has_read,
+            };
             if *has >> key & 1 == 1 {
                 return 10;
             }
             *has |= 1 << key;
-            if kind == 0 && has_written >> key & 1 == 1 {
+            if back && argument != t {
                 return 11;
             }
         }
@@ -310,7 +315,8 @@ impl Tuned {
         }
 
         // The bodies, with no branch: the writers of each key, and 32 for the start; the keys that each transaction writes; the values; the
-        // reads and the writes as lists.
+        // reads and the writes as lists. A read-back is tested, and leaves nothing: a write takes the key out of those read so far, and only a read-back
+        // puts it in again.
         let mut writers = [1u64 << 32; 32];
         let mut written = [0u32; EVERY];
         let (mut reads, mut writes) = ([0u32; 256], [0u16; 256]);
@@ -327,15 +333,19 @@ impl Tuned {
             has_written &= same;
             let (write, bit, place) = (0u32.wrapping_sub(kind & 1), 1u32 << (key & 31), key as usize & 31);
             let unknown = (argument >= t_count as u32) & (argument != 65535);
-            bad |= kind >> 1 | key >> 5 | (unknown as u32 & !write) | has_read & bit & !write | has_written & bit;
-            has_read |= bit & !write;
-            has_written |= bit & write;
+            let (read, wrote) = (bit & !write, bit & write);
+            let back = has_written & read;
+            let other = if argument == t as u32 { 0 } else { back };
+            bad |= kind >> 1 | key >> 5 | (unknown as u32 & !write) | has_read & read | has_written & wrote | other;
+            has_read = (has_read | read) & !wrote;
+            has_written |= wrote;
             written[t] = has_written;
             writers[place] |= (write & 1 << t) as u64;
-            self.values[place * 32 + t] = argument as u16;
+            let value = &mut self.values[place * 32 + t];
+            *value = if back == 0 { argument as u16 } else { *value };
             self.readers[place * 64 + t] = 0;
             reads[read_count & 255] = (place as u32) << 16 | (t as u32) << 8 | argument.min(32);
-            read_count += (!write & 1) as usize;
+            read_count += (read != back) as usize;
             writes[write_count & 255] = (place << 8 | t) as u16;
             write_count += (write & 1) as usize;
         }

@@ -270,10 +270,45 @@ pub fn window(kind: Kind, count: usize, dice: &mut Dice) -> Vec<Transaction> {
     }
 }
 
+/// Has transactions read back what they write, of so many writes one, as far as the log has room: right behind the write, or behind all else that the
+/// transaction does. The rest of the window stays as it is, and so does its answer.
+pub fn read_back(history: &mut [Transaction], of: usize, dice: &mut Dice) {
+    let mut room = 256 - history.iter().map(|t| t.ops.len()).sum::<usize>();
+    for (t, transaction) in history.iter_mut().enumerate() {
+        let (mut ops, mut late) = (Vec::new(), Vec::new());
+        for &op in &transaction.ops {
+            ops.push(op);
+            let Op::Write(key, _) = op else { continue };
+            if room > 0 && dice.below(of) == 0 {
+                room -= 1;
+                let place = if dice.below(2) == 0 { &mut ops } else { &mut late };
+                place.push(Op::Read(key, t as u16));
+            }
+        }
+        ops.extend(late);
+        transaction.ops = ops;
+    }
+}
+
+/// A window of a kind where one write in two, drawn at random, is read back. The window is the one that the first dice make.
+pub fn backed(kind: Kind, count: usize, dice: &mut Dice, backs: &mut Dice) -> Vec<Transaction> {
+    let mut history = window(kind, count, dice);
+    read_back(&mut history, 2, backs);
+    history
+}
+
 /// A full window: 32 transactions, 256 operations, 8 keys; of a serial run, with half of the operations writes or more.
 pub fn full(dice: &mut Dice) -> Vec<Transaction> {
     let writes = [8, 12, 15][dice.below(3)];
     shuffled(&serial(32, 8, 8, true, writes, dice), dice)
+}
+
+/// The same with 160 operations, and as many read-backs of its writes as 256 leave room for.
+pub fn full_backed(dice: &mut Dice) -> Vec<Transaction> {
+    let writes = [8, 12, 15][dice.below(3)];
+    let mut history = shuffled(&serial(32, 8, 5, true, writes, dice), dice);
+    read_back(&mut history, 1, dice);
+    history
 }
 
 /// A small history of any sort, for a search through all permutations.

@@ -11,8 +11,13 @@
  * Stack: beaconcrumb_decide takes at most some 840 KB, most of it in the search, and the others at most some 180 KB (docs/DECISIONS.md), so a
  * thread that calls it should have 4 MB.
  *
- * Numbers: 0 done; 1 to 11 the log is refused (document 01, "Refused because of the input"); 12 encoding over 2 or pruning over 1;
- * 13 the order is not every number below T once; 14 more than 4,096 constraints before pruning; 25 a buffer is too short; 255 no, as said below.
+ * In a transaction a key may be read, then written, then read back: a read after the write names its own transaction and is explained by that write.
+ *
+ * Numbers: 0 done; 1 to 11 the log is refused (docs/MANUAL.md, "All numbers", says what is wrong and where to look), among them
+ * 10 a second write of a key in a transaction, or a second read of it on the same side of the write or of a key not written there, and
+ * 11 a read after the transaction's write of the key that names anything but its own transaction;
+ * 12 encoding over 2 or pruning over 1; 13 the order is not every number below T once; 14 more than 4,096 constraints before pruning;
+ * 25 a buffer is too short; 255 no, as said below.
  */
 #ifndef BEACONCRUMB_H
 #define BEACONCRUMB_H

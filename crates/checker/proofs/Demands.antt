@@ -20,7 +20,7 @@ use Rattle.checker.specs.Decisions.{decideRefusal, refusedDecision, deci
 use Rattle.checker.specs.Results.{orderRefused, tableRefused, orderLeft, tableLeft}
 use Rattle.checker.specs.Demand.{Settles, Demand3}
 use Rattle.checker.proofs.Chain.{taken, refused, load-holds}
-use Rattle.checker.proofs.Whole.{read-back, read-back-selects, decide-lists, decision-settles, same-history, again-settles, again-same, load-counts, load-history}
+use Rattle.checker.proofs.Whole.{lists-hold, lists-select, decide-lists, decision-settles, same-history, again-settles, again-same, load-counts, load-history}
 
 -- ---- Demand 1: each call ends and is safe (the gate proves that of every function); a refusal bears its number, and case and lent lists are
 -- the same bytes after it.
@@ -53,7 +53,8 @@ pub table-refused-changes-nothing : (c : Case) (ys : List ℕ) → tableRefused 
 unfolding tableLeft
 table-refused-changes-nothing c ys f = refused (tableRefused c (length ys)) _ ys f
 
--- A log that document 01 lets through is taken into a case that counts as fresh, and the case then holds it.
+-- A log that is not refused is taken into a case that counts as fresh, and the case then holds it. Which logs these are say the model's
+-- `load-takes-only-well-formed`, `load-takes-only-laid-out` and `load-takes-every-well-formed`.
 pub good-log-is-loaded : (c : Case) (b : List ℕ) → loadRefusal c b ≡ 0
     → (contents (caseAfterLoad c b) ≡ b) × (historyIn (caseAfterLoad c b) ≡ historyOf b)
 unfolding caseAfterLoad
@@ -83,8 +84,8 @@ check-accepts-exactly-the-legal c o e = ap (λ b. b && legal (historyIn c) o) (t
 pub demand-3 : Demand3
 demand-3 = record {
   whole = λ c e pruning ys ws. record {
-    handed-out = read-back c e pruning ys ws;
-    selection = read-back-selects c e pruning ys ws;
+    handed-out = lists-hold c e pruning ys ws;
+    selection = lists-select c e pruning ys ws;
     listed = decide-lists c e pruning ys;
     settles = decision-settles c e pruning (length ys);
     again = λ runs e′ pruning′ places runs′. (same-history c e pruning (length ys) runs, again-settles c e pruning (length ys) runs e′ pruning′ places runs′, again-same c e pruning (length ys) runs e′ pruning′ places runs′);

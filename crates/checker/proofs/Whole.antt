@@ -1,4 +1,4 @@
--- Demand 3's parts: what Encode's lists hold when they are read back, and what a decision says and leaves. Assumes nothing.
+-- Demand 3's parts: what Encode's lists hold, taken as a polygraph, and what a decision says and leaves. Assumes nothing.
 use Prim.Native.Nat.{ℕ, zero, suc, _+_, _≤_, _<_}
 use native.Mathlib.Omega.{arith}
 use mathlib.Core.Path.{_≡_, refl, sym, ap, ap₂, subst, _∙_}
@@ -33,7 +33,7 @@ use Rattle.checker.specs.Encodings.{encodeRefusal, encodeAnswer, encodeL
 use Rattle.answers.specs.Settings.{settingRefusal}
 use Rattle.checker.specs.Decisions.{decideRefusal, verdictFor, decidedCase, decided, refusedDecision, deciding, listAfterDecide}
 use Rattle.checker.specs.Results.{orderRefused, tableRefused}
-use Rattle.checker.specs.Demand.{readBack, handedOut, Serializable, IsFirst, Settles, SameAnswer}
+use Rattle.checker.specs.Demand.{inLists, handedOut, Serializable, IsFirst, Settles, SameAnswer}
 use Rattle.checker.proofs.Holding.{case-loads}
 use Rattle.checker.proofs.Verdicts.{numbers-of}
 use Rattle.checker.proofs.Chain.{taken, load-holds, load-stage, encode-held, not-refused, decided-contents, none-stage, some-stage, order-writes, table-writes}
@@ -109,9 +109,9 @@ module _ (c : Case) (e pruning : ℕ) (ys : List Constraint) (ws : List ℕ) (ru
   abbrev h : History
   h = historyIn c
 
-  pub read-back : handedOut c e pruning ys ws ≡ polygraph h e pruning
-  unfolding handedOut readBack encodeAnswer encodeList encodeRows encodedList encodedRows encodedCount
-  read-back =
+  pub lists-hold : handedOut c e pruning ys ws ≡ polygraph h e pruning
+  unfolding handedOut inLists encodeAnswer encodeList encodeRows encodedList encodedRows encodedCount
+  lists-hold =
       ap₂ {C = Polygraph} (λ (k : List ℕ) (cs : List Constraint). record { known = k; choices = cs })
       (ap (take 32) (taken (encodeRefusal c e pruning (length ys) (length ws)) (p .known ++ drop 32 ws) ws runs) ∙ take-at (p .known) (drop 32 ws) 32 (known-long h e pruning))
       (ap₂ take (taken (encodeRefusal c e pruning (length ys) (length ws)) (length (p .choices)) 0 runs) (taken (encodeRefusal c e pruning (length ys) (length ws)) (encodedList h e pruning ys) ys runs)
@@ -120,9 +120,9 @@ module _ (c : Case) (e pruning : ℕ) (ys : List Constraint) (ws : List ℕ) (ru
       p : Polygraph
       p = polygraph h e pruning
 
-  pub read-back-selects : Serializable h ↔ AcyclicSelection (handedOut c e pruning ys ws)
-  read-back-selects =
-      subst (λ (p : Polygraph). Serializable h ↔ AcyclicSelection p) (sym read-back)
+  pub lists-select : Serializable h ↔ AcyclicSelection (handedOut c e pruning ys ws)
+  lists-select =
+      subst (λ (p : Polygraph). Serializable h ↔ AcyclicSelection p) (sym lists-hold)
       (serializable h (loadable-log (contents c) (case-loads c (encode-held c e pruning (length ys) (length ws) runs))) e pruning (in-range c e pruning (length ys) (length ws) runs))
 
 -- ---- Decide

@@ -21,14 +21,14 @@ use Rattle.checker.specs.Encodings.{encodeRefusal, encodeAnswer, encodeL
 use Rattle.checker.specs.Decisions.{decideRefusal, deciding, listAfterDecide}
 use Rattle.checker.specs.Results.{orderRefused, orderLeft, tableRefused, tableLeft}
 
--- The two lists that Encode leaves, read back as a polygraph: the first 32 row words, and as many constraints as the count says.
-unfoldable pub readBack : List Constraint → ℕ → List ℕ → Polygraph
-readBack zs left vs = record { known = take 32 vs; choices = take left zs }
+-- The two lists that Encode leaves, taken as a polygraph: the first 32 row words, and as many constraints as the count says.
+unfoldable pub inLists : List Constraint → ℕ → List ℕ → Polygraph
+inLists zs left vs = record { known = take 32 vs; choices = take left zs }
 
--- What Encode leaves in the lists ys and ws, read back.
+-- What Encode leaves in the lists ys and ws, taken so.
 unfoldable pub handedOut : Case → ℕ → ℕ → List Constraint → List ℕ → Polygraph
 handedOut c e pruning ys ws =
-    readBack (encodeList c e pruning ys (length ws)) (encodeAnswer c e pruning (length ys) (length ws) .left) (encodeRows c e pruning (length ys) ws)
+    inLists (encodeList c e pruning ys (length ws)) (encodeAnswer c e pruning (length ys) (length ws) .left) (encodeRows c e pruning (length ys) ws)
 
 -- some legal order exists
 abbrev pub Serializable : History → Type 0

@@ -1,5 +1,5 @@
 // Decide, Order and Table of many small random histories, in the six settings, against a search through all permutations and a direct replay: up to 6
-// transactions over 1 to 3 keys, with good, bad and starting reads, shared cabinets, blind writes, read-modify-write chains and rings.
+// transactions over 1 to 3 keys, with good, bad and starting reads, read-backs, shared cabinets, blind writes, read-modify-write chains and rings.
 use checker::Case;
 use checker::Decision;
 use checker::Stage;
@@ -18,9 +18,10 @@ mod results;
 // How many histories there are of each kind.
 const COUNT: u64 = 1000;
 
-// The histories with an order and without; decisions, each with Order and Table of its case; refusals of Order and Table; decisions on a list that
-// another was made on.
+// The histories with a read-back; those with an order and without; decisions, each with Order and Table of its case; refusals of Order and Table; decisions
+// on a list that another was made on.
 pub struct Tally {
+    pub backs: u64,
     pub orders: u64,
     pub without: u64,
     pub decided: u64,
@@ -231,6 +232,7 @@ fn with_log(t: Tally, bytes: &[u8], length: usize, s: trial::Sample, kind: u8, s
     let log = &bytes[0..length];
     let x = expected(s, log);
     let mut out = with_settings(t, log, x);
+    out.backs = more(t.backs, direct::reads_back(log));
     out.orders = more(t.orders, x.found);
     out.without = more(t.without, !x.found);
     let refused = with_refusals(out, log, x);
@@ -242,6 +244,7 @@ fn with_log(t: Tally, bytes: &[u8], length: usize, s: trial::Sample, kind: u8, s
 // The histories of a kind.
 fn row(kind: u8) -> Tally {
     let mut t = Tally {
+        backs: 0,
         orders: 0,
         without: 0,
         decided: 0,
@@ -264,7 +267,9 @@ fn row(kind: u8) -> Tally {
 fn print(name: &[u8], kind: u8) {
     let t = row(kind);
     text(name);
-    text(b": order");
+    text(b": with read-backs");
+    number(t.backs);
+    text(b"; order");
     number(t.orders);
     text(b", no order");
     number(t.without);

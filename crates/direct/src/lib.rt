@@ -1,4 +1,4 @@
-// A second listing of a log's polygraph, written straight from document 01's sentences. Nothing here is shared with the code under test: the log's bytes
+// A second listing of a log's polygraph, written straight from the sentences of document 01 and card 1. Nothing here is shared with the code under test: the log's bytes
 // are read into tables (this file), the known edges and the constraints are listed from them (modules `edges`, `constraints`), pruning goes by passes
 // with all paths found afresh before each constraint (module `passes`), and an order is replayed on a table (module `tables`). The contracts say nothing;
 // the functions are proved safe and ending.
@@ -8,7 +8,8 @@ pub mod passes;
 pub mod tables;
 
 // What a log that Load takes says, of `size` transactions. Bit t of `writers[k]` is set where t writes key k; place 32 * t + k of `names` is what t's read
-// of key k names, or NONE; the first `count` of `reads` are such places, in body order.
+// of key k names, or NONE; the first `count` of `reads` are such places, in body order. A read-back is no such read: the write before it in its transaction
+// explains it, and it adds nothing. `backs` is how many there are.
 pub struct History {
     pub size: usize,
     pub cabinet: [u8; 32],
@@ -16,6 +17,7 @@ pub struct History {
     pub names: [u16; 1024],
     pub reads: [u16; 256],
     pub count: usize,
+    pub backs: usize,
 }
 
 // No read.
@@ -87,6 +89,13 @@ fn with_read(h: History, t: usize, key: usize, name: u16) -> History {
     out
 }
 
+// The history with a read-back passed by.
+fn with_back(h: History) -> History {
+    let mut out = h;
+    out.backs = h.backs % 256 + 1;
+    out
+}
+
 // The history with transaction t's write of the key.
 fn with_write(h: History, t: usize, key: usize) -> History {
     let mut out = h;
@@ -94,16 +103,20 @@ fn with_write(h: History, t: usize, key: usize) -> History {
     out
 }
 
-// The history with transaction t's operation whose body begins at byte i.
+// The history with transaction t's operation whose body begins at byte i. The operations come in body order: t is among the writers of the key where a
+// write of it stands before this operation in the transaction.
 fn with_operation(h: History, log: &[u8], t: usize, i: usize) -> History {
     if i > 1152 {
         return h;
     }
     let key = byte(log, i + 1) as usize;
-    if byte(log, i) == 0 {
-        return with_read(h, t, key, pair(log, i + 2));
+    if byte(log, i) == 1 {
+        return with_write(h, t, key);
     }
-    with_write(h, t, key)
+    if has(h.writers[key % 32], t) {
+        return with_back(h);
+    }
+    with_read(h, t, key, pair(log, i + 2))
 }
 
 // The history with all operations of transaction t.
@@ -128,12 +141,19 @@ pub fn read(log: &[u8]) -> History {
         names: [NONE; 1024],
         reads: [0; 256],
         count: 0,
+        backs: 0,
     };
     for t in 0..n {
         let next = with_transaction(out, log, t);
         out = next;
     }
     out
+}
+
+// Whether a log has a read-back.
+pub fn reads_back(log: &[u8]) -> bool {
+    let h = read(log);
+    h.backs > 0
 }
 
 // What transaction t's read of the key names, or NONE.

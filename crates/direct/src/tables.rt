@@ -1,4 +1,4 @@
-// The table that an order leaves, by a replay on the log's bytes.
+// The table that an order leaves, by a replay on the log's bytes. Reads, before a write or behind it, change nothing.
 use crate::body;
 use crate::byte;
 use crate::operations;

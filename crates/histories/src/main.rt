@@ -1,5 +1,6 @@
-// Document 01's histories A to J and the program's example, through the calls: what Load says, what Decide says and in how many of the six settings, and
-// how many constraints Encode gives in encodings 0, 1 and 2, before pruning and after it. Then what Judge prints for each kind of answer.
+// Document 01's histories A to J, histories with read-backs and the program's example, through the calls: what Load says, what Decide says and in how many
+// of the six settings, and how many constraints Encode gives in encodings 0, 1 and 2, before pruning and after it. Then what Judge prints for each kind of
+// answer.
 use checker::Case;
 use checker::Decision;
 use checker::Verdict;
@@ -168,11 +169,10 @@ fn a_to_d() {
 }
 
 fn e_to_g() {
-    show(
-        b"E",
-        b"\x04\x00\x06\x00\x00\x01\x00\x00\x01\x02\x01\x00\x02\x01\x03\x00\x03\x02\x04\x00\x01\x00\x05\x00\x00\x00\x00\x00\x01\x00\x06\x00\x01\x00\x07\x00\x00\x00\x02\x00\x01\x00\x08\x00",
-        4,
-    );
+    let e =
+        b"\x04\x00\x06\x00\x00\x01\x00\x00\x01\x02\x01\x00\x02\x01\x03\x00\x03\x02\x04\x00\x01\x00\x05\x00\x00\x00\x00\x00\x01\x00\x06\x00\x01\x00\x07\x00\x00\x00\x02\x00\x01\x00\x08\x00";
+    show(b"E", e, 4);
+    show_polygraph(b"E chained", e, 2);
     let f = b"\x01\x00\x02\x00\x00\x02\x00\x00\x00\x00\x00\x00\x01\x00\x05\x00";
     show(b"F", f, 1);
     show_polygraph(b"F plain", f, 0);
@@ -211,6 +211,31 @@ fn h_to_j() {
     );
 }
 
+// 0 writes k and reads it back; it reads k at start before; it reads k from itself before, as in F; both writers of C and all four of E read back.
+fn read_backs() {
+    show(
+        b"a read-back",
+        b"\x01\x00\x02\x00\x00\x02\x00\x00\x01\x00\x05\x00\x00\x00\x00\x00",
+        1,
+    );
+    show(
+        b"a read at start and a read-back",
+        b"\x01\x00\x03\x00\x00\x03\x00\x00\x00\x00\xff\xff\x01\x00\x05\x00\x00\x00\x00\x00",
+        1,
+    );
+    let f = b"\x01\x00\x03\x00\x00\x03\x00\x00\x00\x00\x00\x00\x01\x00\x05\x00\x00\x00\x00\x00";
+    show(b"F with a read-back", f, 1);
+    show_polygraph(b"F with a read-back, plain", f, 0);
+    let c =
+        b"\x02\x00\x04\x00\x00\x02\x00\x00\x01\x02\x02\x00\x01\x00\x05\x00\x00\x00\x00\x00\x01\x00\x06\x00\x00\x00\x01\x00";
+    show(b"C with read-backs", c, 2);
+    show_polygraph(b"C with read-backs, joined", c, 1);
+    let e =
+        b"\x04\x00\x0a\x00\x00\x02\x00\x00\x01\x03\x02\x00\x02\x02\x05\x00\x03\x03\x07\x00\x01\x00\x05\x00\x00\x00\x00\x00\x00\x00\x00\x00\x01\x00\x06\x00\x00\x00\x01\x00\x01\x00\x07\x00\x00\x00\x02\x00\x00\x00\x02\x00\x01\x00\x08\x00\x00\x00\x03\x00";
+    show(b"E with read-backs", e, 4);
+    show_polygraph(b"E with read-backs, chained", e, 2);
+}
+
 // ---- what Judge prints
 
 fn judged(name: &[u8], log: &[u8]) {
@@ -224,8 +249,16 @@ fn judged(name: &[u8], log: &[u8]) {
 fn judge_each() {
     judged(b"Judge on 3 bytes:", b"\x00\x00\x00");
     judged(
-        b"Judge on a read after the write of its key:",
+        b"Judge on a read-back:",
         b"\x01\x00\x02\x00\x00\x02\x00\x00\x01\x00\x05\x00\x00\x00\x00\x00",
+    );
+    judged(
+        b"Judge on a read-back of the starting value:",
+        b"\x01\x00\x02\x00\x00\x02\x00\x00\x01\x00\x05\x00\x00\x00\xff\xff",
+    );
+    judged(
+        b"Judge on a second read-back:",
+        b"\x01\x00\x03\x00\x00\x03\x00\x00\x01\x00\x05\x00\x00\x00\x00\x00\x00\x00\x00\x00",
     );
     judged(b"Judge on A:", b"\x00\x00\x00\x00");
     judged(
@@ -246,5 +279,6 @@ fn main() {
     a_to_d();
     e_to_g();
     h_to_j();
+    read_backs();
     judge_each();
 }

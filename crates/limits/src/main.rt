@@ -19,6 +19,8 @@ use samples::loaded_full;
 use samples::same_case;
 use samples::with_byte;
 
+mod backs;
+
 // 1, 2 and 3: the header and the length.
 fn header() {
     let log = full();
@@ -130,7 +132,7 @@ fn bodies() {
     );
 }
 
-// 10 and 11: a body and those before it in its transaction.
+// 10: a body and those before it in its transaction. The module `backs` has what stands behind a write.
 fn pairs() {
     line2(
         b"second read at body 1, 255:",
@@ -143,14 +145,14 @@ fn pairs() {
         changed_number(1148, 1, 1149, 2),
     );
     line2(
-        b"read after the write at body 1, 255:",
-        changed_number(132, 1, 136, 0),
-        changed_number(1148, 1, 1152, 0),
-    );
-    line2(
         b"the same keys in the next transaction:",
         changed_number(164, 0, 165, 0),
         changed_number(168, 1, 169, 0),
+    );
+    line2(
+        b"a read before the write that names its own transaction, at body 0, 254:",
+        changed_number(134, 0, 135, 0),
+        changed_number(1150, 31, 1151, 0),
     );
 }
 
@@ -248,6 +250,8 @@ fn main() {
     contents();
     bodies();
     pairs();
+    backs::numbers();
+    backs::taken();
     several();
     state();
     proposed();

@@ -2,6 +2,7 @@
 use Prim.Native.Nat.{ℕ, _+_, _*_, _/_, _%_, _^_, _≤_, _<_}
 use native.Mathlib.Omega.{arith}
 use mathlib.Core.Path.{_≡_, refl, sym, ap, ap₂, subst, _∙_}
+use mathlib.Core.Logic.{_⊎_, ⊎-elim}
 use mathlib.Core.Bool.{Bool, true, false, not, cond, _&&_}
 use mathlib.Core.List.{List, [], map}
 use lib.Dec.{T, eqb, ltb, ltb→lt, lt→ltb}
@@ -9,20 +10,20 @@ use lib.Pow.{pow-lt}
 use lib.ListN.{getD}
 use Rattle.model.specs.Lists.{keep, each, upTo, bit, All}
 use Rattle.model.specs.declared.Constraint.{Constraint}
-use Rattle.model.specs.History.{History, Operation, size, operationsOf, isRead, writes, reads}
+use Rattle.model.specs.History.{History, Operation, size, outwardOf, isRead, writes, reads}
 use Rattle.model.specs.Polygraph.{goodRead, only, plainOf, plain}
 use Rattle.model.specs.Log.{transactionsIn, operationsIn, countAt, startAt, loadNumber, historyOf}
-use Rattle.model.proofs.Basics.{false-eq, eq-T, iff-eq, not-intro, and-l, and-r, and-in, All-keep-in, All-map-out, upTo-in, upTo-out}
+use Rattle.model.proofs.Basics.{false-eq, eqb-ne, eq-T, iff-eq, not-intro, and-l, and-r, and-in, All-keep-in, All-map-out, upTo-in, upTo-out}
 use Rattle.model.proofs.Legal.{writes-small}
 use Rattle.model.proofs.Masks.{bit-none, only-shift}
-use Rattle.model.proofs.Loaded.{Loaded, loaded, history-size, operationOf, operations-at, body-good, within}
+use Rattle.model.proofs.Loaded.{Loaded, loaded, history-size, operationOf, operations-at, body-good, keys-good, within}
+use Rattle.model.proofs.ReadBacks.{reads-or-own, plain-all}
 use Rattle.graph.specs.Masks.{without}
 use Rattle.graph.specs.Members.{members}
 use Rattle.graph.proofs.WordLaws.{bit-without}
 use Rattle.graph.proofs.MemberLaws.{members-are, keep-none}
 use Rattle.polygraph.specs.Tables.{writersOf}
 use Rattle.polygraph.proofs.RowWords.{writer-bit}
-use Rattle.polygraph.proofs.ReadTable.{own-reads}
 use Rattle.listing.specs.Candidates.{rowOf, rightOf, plainItem, pairItem, chainItem, choose, itemBy}
 use Rattle.listing.specs.Choosing.{inRow}
 use Rattle.listing.specs.Plain.{plainMask, maskOf, bodyNumbers, plainNumbersOf, plainNumbers, PlainTable}
@@ -73,11 +74,14 @@ module _ (b : List ℕ) (e : loadNumber b ≡ 0) (w : List ℕ) (p : PlainTable 
     word-is : getD w i 0 ≡ t + 32 * (r .argument % 32)
     word-is = p .done t m tl ml (omega (arith, within b ok t tl))
 
-    own : T (isRead r) → T (reads h t (r .key) (r .argument))
+    -- a read looks at earlier transactions, or is a read-back, which names t
+    own : (T (isRead r) → T (reads h t (r .key) (r .argument))) ⊎ (r .argument ≡ t)
     own =
-        upTo-out (λ j. T (isRead (operationOf b t j)) → T (reads h t (operationOf b t j .key) (operationOf b t j .argument))) (countAt b t)
-        (All-map-out (λ o. T (isRead o) → T (reads h t (o .key) (o .argument))) (operationOf b t) (upTo (countAt b t))
-        (subst (All (λ o. T (isRead o) → T (reads h t (o .key) (o .argument)))) (operations-at b t tl) (own-reads h few t))) m ml
+        upTo-out (λ j. Own (operationOf b t j)) (countAt b t)
+        (All-map-out Own (operationOf b t) (upTo (countAt b t)) (subst (All Own) (operations-at b t tl) (reads-or-own h t (keys-good b e t tl)))) m ml
+      where
+        Own : Operation → Type 0
+        Own o = (T (isRead o) → T (reads h t (o .key) (o .argument))) ⊎ (o .argument ≡ t)
 
     abbrev a : ℕ
     a = r .argument
@@ -100,8 +104,9 @@ module _ (b : List ℕ) (e : loadNumber b ≡ 0) (w : List ℕ) (p : PlainTable 
         let y = and-r (isRead r) (ltb a 32 && (not (eqb a t) && bit W a)) x in
         let al = ltb→lt a 32 (and-l (ltb a 32) (not (eqb a t) && bit W a) y) in
         let z = and-r (ltb a 32) (not (eqb a t) && bit W a) y in
+        let found : T (reads h t (r .key) a) = ⊎-elim (λ f. f rd) (λ (q : a ≡ t). absurd (eqb-ne (and-l (not (eqb a t)) (bit W a) z) q)) own in
         and-in (isRead r) (goodRead h (r .key) t a) rd
-        (and-in (reads h t (r .key) a) (writes h a (r .key) && not (eqb a t)) (own rd)
+        (and-in (reads h t (r .key) a) (writes h a (r .key) && not (eqb a t)) found
         (and-in (writes h a (r .key)) (not (eqb a t)) (eq-T (writer-bit h few (r .key) a key32 al) (and-r (not (eqb a t)) (bit W a) z)) (and-l (not (eqb a t)) (bit W a) z))))
         (λ x.
         let rd = and-l (isRead r) (goodRead h (r .key) t a) x in
@@ -160,7 +165,7 @@ module _ (b : List ℕ) (e : loadNumber b ≡ 0) (w : List ℕ) (p : PlainTable 
 
   -- ---- the bodies of a transaction, and all
 
-  transaction-is : (t : ℕ) → t < transactionsIn b → map (itemBy w) (plainNumbersOf b (writersOf h) t (countAt b t)) ≡ each (plainOf h t) (operationsOf h t)
+  transaction-is : (t : ℕ) → t < transactionsIn b → map (itemBy w) (plainNumbersOf b (writersOf h) t (countAt b t)) ≡ each (plainOf h t) (outwardOf h t)
   unfolding plainNumbersOf
   transaction-is t l =
       map-each (itemBy w) (bodyNumbers b (writersOf h) t) (upTo (countAt b t))
@@ -168,11 +173,12 @@ module _ (b : List ℕ) (e : loadNumber b ≡ 0) (w : List ℕ) (p : PlainTable 
       (upTo-in (λ m. map (itemBy w) (bodyNumbers b (writersOf h) t m) ≡ plainOf h t (operationOf b t m)) (countAt b t) (λ m k. body-is t m l k))
       ∙ sym (each-map (plainOf h t) (operationOf b t) (upTo (countAt b t)))
       ∙ ap (each (plainOf h t)) (sym (operations-at b t l))
+      ∙ sym (plain-all h t (keys-good b e t l))
 
   pub chosen-plain : map (itemBy w) (plainNumbers b (writersOf (historyOf b)) (transactionsIn b)) ≡ plain (historyOf b)
   unfolding plainNumbers plain
   chosen-plain =
       map-each (itemBy w) (λ s. plainNumbersOf b (writersOf h) s (countAt b s)) (upTo (transactionsIn b))
-      ∙ each-all (λ s. map (itemBy w) (plainNumbersOf b (writersOf h) s (countAt b s))) (λ t. each (plainOf h t) (operationsOf h t)) (upTo (transactionsIn b))
-      (upTo-in (λ t. map (itemBy w) (plainNumbersOf b (writersOf h) t (countAt b t)) ≡ each (plainOf h t) (operationsOf h t)) (transactionsIn b) transaction-is)
-      ∙ ap (λ n. each (λ t. each (plainOf h t) (operationsOf h t)) (upTo n)) (sym (history-size b))
+      ∙ each-all (λ s. map (itemBy w) (plainNumbersOf b (writersOf h) s (countAt b s))) (λ t. each (plainOf h t) (outwardOf h t)) (upTo (transactionsIn b))
+      (upTo-in (λ t. map (itemBy w) (plainNumbersOf b (writersOf h) t (countAt b t)) ≡ each (plainOf h t) (outwardOf h t)) (transactionsIn b) transaction-is)
+      ∙ ap (λ n. each (λ t. each (plainOf h t) (outwardOf h t)) (upTo n)) (sym (history-size b))

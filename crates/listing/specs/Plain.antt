@@ -12,7 +12,8 @@ use Rattle.graph.specs.Masks.{without}
 use Rattle.graph.specs.Members.{members}
 use Rattle.listing.specs.Choosing.{inRow}
 
--- the v of a body of t: where it is a good read, the writers w of its key but the one that it names and t
+-- the v of a body of t: where it is a good read, the writers w of its key but the one that it names and t. Nothing is asked of its place: a read-back in a
+-- loaded log names t (law `plain-all` of the model).
 unfoldable pub plainMask : ℕ → ℕ → ℕ → ℕ → ℕ
 plainMask w t kind a = cond (eqb kind 0 && (ltb a 32 && (not (eqb a t) && bit w a))) (without (without w a) t) 0
 

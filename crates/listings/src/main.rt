@@ -1,5 +1,5 @@
-// What Encode writes, against a second, direct listing: of small random histories and of full windows, in the six settings, with lists exactly as long
-// as they must be, longer, and too short by one place or one word.
+// What Encode writes, against a second, direct listing: of small random histories and of full windows, some with read-backs, in the six settings, with
+// lists exactly as long as they must be, longer, and too short by one place or one word.
 use checker::Case;
 use checker::Encoding;
 use checker::Reply;
@@ -10,6 +10,7 @@ use samples::lines::text;
 use samples::loaded;
 use samples::same_case;
 use trial::log::Bytes;
+use windows::Form;
 use windows::Shape;
 
 mod windows;
@@ -40,6 +41,7 @@ pub struct Seen {
 }
 
 pub struct Tally {
+    pub backs: u64,
     pub polygraphs: u64,
     pub constraints: u64,
     pub left: u64,
@@ -199,13 +201,20 @@ fn with_setting(t: Tally, log: &[u8], encoding: u8, pruning: u8, mark: u32) -> T
     with_refusals(listed, c, l, p)
 }
 
+// One log more: whether it has a read-back.
+fn counted(t: Tally, log: &[u8]) -> Tally {
+    let mut out = t;
+    out.backs = more(t.backs, one(direct::reads_back(log)));
+    out
+}
+
 // The six settings of the log that is the first `length` bytes.
 fn with_log(t: Tally, bytes: &[u8], length: usize, mark: u32) -> Tally {
     if length > bytes.len() {
         return t;
     }
     let log = &bytes[0..length];
-    let mut out = t;
+    let mut out = counted(t, log);
     for s in 0..6u8 {
         let next = with_setting(out, log, s / 2, s % 2, mark);
         out = next;
@@ -215,6 +224,7 @@ fn with_log(t: Tally, bytes: &[u8], length: usize, mark: u32) -> Tally {
 
 fn none() -> Tally {
     Tally {
+        backs: 0,
         polygraphs: 0,
         constraints: 0,
         left: 0,
@@ -280,7 +290,9 @@ fn full(shape: Shape) -> Tally {
 
 fn print(name: &[u8], t: Tally) {
     text(name);
-    text(b": polygraphs");
+    text(b": logs with read-backs");
+    number(t.backs);
+    text(b"; polygraphs");
     number(t.polygraphs);
     text(b", constraints");
     number(t.constraints);
@@ -298,7 +310,7 @@ fn print(name: &[u8], t: Tally) {
 // Windows whose transactions read and write each of their keys.
 fn print_pairs(name: &[u8], width: u64, loose: bool) {
     let shape = Shape {
-        pairs: true,
+        form: Form::Pairs,
         sparse: 1,
         width,
         loose,
@@ -309,10 +321,21 @@ fn print_pairs(name: &[u8], width: u64, loose: bool) {
 // Windows whose transactions read or write each of their keys: one operation of so many reads.
 fn print_singles(name: &[u8], sparse: u64, width: u64) {
     let shape = Shape {
-        pairs: false,
+        form: Form::Singles,
         sparse,
         width,
         loose: false,
+    };
+    print(name, full(shape));
+}
+
+// Windows whose transactions read back each key that they write.
+fn print_backs(name: &[u8], width: u64, loose: bool) {
+    let shape = Shape {
+        form: Form::Backs,
+        sparse: 1,
+        width,
+        loose,
     };
     print(name, full(shape));
 }
@@ -381,6 +404,13 @@ fn main() {
     print_singles(b"full windows, 32 keys read or written", 2, 4);
     print_singles(b"full windows, 8 keys, one operation of 32 reads", 32, 1);
     print_singles(b"full windows, 32 keys, one operation of 16 reads", 16, 4);
+    print_backs(b"full windows, 3 keys written and read back", 1, false);
+    print_backs(b"full windows, 24 keys written and read back", 8, false);
+    print_backs(
+        b"full windows, 12 keys read back, some reads of anything",
+        4,
+        true,
+    );
     print_refusals(b"settings out of range", settings());
     print_refusals(b"a fresh case", blanks());
 }

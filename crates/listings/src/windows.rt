@@ -6,10 +6,18 @@ pub struct Window {
     pub last: [u16; 32],
 }
 
-// What sets windows apart: whether a transaction reads and writes each of its keys, or does one of both, and then how many operations there are for each
-// read; how many keys there are for an operation to choose from; whether some reads name anything.
+// What a transaction does with its keys: it reads or writes each of eight; it reads and writes each of four; or it reads, writes and reads back two, and
+// writes and reads back a third.
+pub enum Form {
+    Singles,
+    Pairs,
+    Backs,
+}
+
+// What sets windows apart: the form, and with Singles how many operations there are for each read; how many keys there are for an operation to choose from;
+// whether some reads name anything.
 pub struct Shape {
-    pub pairs: bool,
+    pub form: Form,
     pub sparse: u64,
     pub width: u64,
     pub loose: bool,
@@ -54,12 +62,75 @@ fn opened(seed: u64) -> Window {
     }
 }
 
-// The key of operation j: no two of a transaction share one, but a read and the write right behind it.
-fn key_of(shape: Shape, j: u64, r: u64) -> u64 {
-    if shape.pairs {
-        8 * (j / 2 % 4) + trial::below(r, shape.width) % 8
-    } else {
-        4 * (j % 8) + trial::below(r, shape.width) % 4
+// What an operation does.
+const READ: u8 = 0;
+
+const WRITE: u8 = 1;
+
+const BACK: u8 = 2;
+
+// An operation's key, by its number among those of the transaction, and what it does with it.
+struct Role {
+    slot: u64,
+    act: u8,
+}
+
+// Operation j of transaction t in the form Backs: the read-back stands right behind the write or, in every second transaction, behind all else.
+fn backed(t: u64, j: u64) -> Role {
+    if t % 2 == 0 {
+        return Role {
+            slot: j % 8 / 3,
+            act: if j > 5 {
+                (j % 2 + 1) as u8
+            } else {
+                (j % 3) as u8
+            },
+        };
+    }
+    if j > 4 {
+        return Role {
+            slot: (j - 5) % 3,
+            act: BACK,
+        };
+    }
+    Role {
+        slot: j / 2,
+        act: if j == 4 { WRITE } else { (j % 2) as u8 },
+    }
+}
+
+// Operation j of transaction t in a shape, by a random number.
+fn role_of(shape: Shape, t: u64, j: u64, r: u64) -> Role {
+    let form = shape.form;
+    match form {
+        Form::Singles => Role {
+            slot: j % 8,
+            act: if trial::below(r, shape.sparse) != 0 {
+                WRITE
+            } else {
+                READ
+            },
+        },
+        Form::Pairs => Role {
+            slot: j % 8 / 2,
+            act: (j % 2) as u8,
+        },
+        Form::Backs => backed(t, j),
+    }
+}
+
+// The key of a slot of transaction t: no two slots share one.
+fn key_of(shape: Shape, t: u64, slot: u64, seed: u64) -> u64 {
+    let form = shape.form;
+    match form {
+        Form::Singles => {
+            let r = chance(seed, 300 + 8 * (t % 32) + slot % 8);
+            4 * (slot % 8) + trial::below(r, shape.width) % 4
+        }
+        Form::Pairs | Form::Backs => {
+            let r = chance(seed, 300 + 4 * (t % 32) + slot % 4);
+            8 * (slot % 4) + trial::below(r, shape.width) % 8
+        }
     }
 }
 
@@ -85,18 +156,16 @@ fn with_body(w: Window, place: u64, kind: u8, key: u64, argument: u16) -> Window
 // The window with operation j of transaction t, after the operations before it in the run.
 fn with_operation(w: Window, shape: Shape, t: u64, j: u64, seed: u64) -> Window {
     let place = 8 * (t % 32) + j % 8;
-    let which = if shape.pairs { place / 2 } else { place };
-    let key = key_of(shape, j, chance(seed, 300 + which % 256));
     let r = chance(seed, 600 + place);
-    let writes = if shape.pairs {
-        j % 2 == 1
-    } else {
-        trial::below(r, shape.sparse) != 0
-    };
-    if writes {
+    let role = role_of(shape, t, j, r);
+    let key = key_of(shape, t, role.slot, seed);
+    if role.act == WRITE {
         let mut out = with_body(w, place, 1, key, (r % 65536) as u16);
         out.last[(key % 32) as usize] = (t % 32) as u16;
         return out;
+    }
+    if role.act == BACK {
+        return with_body(w, place, 0, key, (t % 32) as u16);
     }
     with_body(w, place, 0, key, name_of(w, shape, key, trial::next(r)))
 }

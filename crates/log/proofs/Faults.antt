@@ -1,5 +1,5 @@
--- A body of which no fault bit is set has the number 0. Assumes nothing.
-use Prim.Native.Nat.{ℕ, _-_, _^_, _/_, _%_, _<_}
+-- A body of which no fault bit is set has the number 0, whatever was read back: it is no read-back itself. Assumes nothing.
+use Prim.Native.Nat.{ℕ, _^_, _/_, _%_, _<_}
 use native.Mathlib.Omega.{arith}
 use mathlib.Core.Path.{_≡_, refl, sym, ap, ap₂, subst, _∙_}
 use mathlib.Core.Logic.{_⊎_, ⊎-elim}
@@ -10,7 +10,7 @@ use Rattle.model.specs.Lists.{bit}
 use Rattle.model.proofs.Basics.{true-eq, false-eq, decide}
 use Rattle.model.proofs.Masks.{bit-or, bit-and, bit-none, bit-one}
 use borrow.Author.Tests.{eq-eqb, le-ltb}
-use Rattle.log.specs.Tests.{named, readBy, writeBy, bodyBy, faultsBy, markBy}
+use Rattle.log.specs.Tests.{named, backBy, readBy, writeBy, bodyBy, faultsBy, markBy}
 use Rattle.log.specs.declared.Body.{Body}
 
 -- no bit is set in a union where none is in either part
@@ -28,9 +28,9 @@ and-none x k e = go (bit x k) (ap (λ y. bit x k && y) (sym (one-bit k)) ∙ sym
     go true p = subst (λ z. T (not z)) (sym p) tt
     go false p = tt
 
-pub faults-good : (o : Body) (n reads writes : ℕ) → faultsBy o n reads writes ≡ 0 → (o .key < 32) × (bodyBy o n reads writes ≡ 0)
-unfolding faultsBy bodyBy readBy writeBy markBy
-faults-good o n reads writes s =
+pub faults-good : (o : Body) (n t reads writes backs : ℕ) → faultsBy o n reads writes ≡ 0 → (o .key < 32) × (bodyBy o n t reads writes backs ≡ 0)
+unfolding faultsBy bodyBy readBy backBy writeBy markBy
+faults-good o n t reads writes backs s =
     let one = or-none (bitOr (bitOr (o .kind / 2) (o .key / 32)) (bitOr (bitAnd reads read) (bitAnd writes (bitOr 0 (2 ^ key))))) (cond (named n (o .argument)) 0 read) s in
     let two = or-none (bitOr (o .kind / 2) (o .key / 32)) (bitOr (bitAnd reads read) (bitAnd writes (bitOr 0 (2 ^ key)))) (one .0) in
     let low : (o .kind / 2 ≡ 0) × (o .key / 32 ≡ 0) = or-none (o .kind / 2) (o .key / 32) (two .0) in
@@ -38,7 +38,7 @@ faults-good o n reads writes s =
     let same : key ≡ o .key = omega (arith, low .1) in (
       omega (arith, low .1),
       ap₂ {C = ℕ} (λ (x y : Bool). cond x 7 (cond y 8 body)) (le-ltb 1 (o .kind) (omega (arith, low .0))) (le-ltb 31 (o .key) (omega (arith, low .1)))
-          ∙ go (eqb (o .kind) 0) (named n (o .argument)) (bit reads (o .key)) (bit writes (o .key))
+          ∙ go (eqb (o .kind) 0) (named n (o .argument)) (bit reads (o .key)) (bit writes (o .key)) back
           (λ z. (name (true-eq (eqb (o .kind) 0) z) (one .1), subst (λ k. T (not (bit reads k))) same (and-none reads key (ap (bitAnd reads) (sym (bit-is (true-eq (eqb (o .kind) 0) z))) ∙ seen .0))))
           (subst (λ k. T (not (bit writes k))) same (and-none writes key (seen .1))),
     )
@@ -49,8 +49,13 @@ faults-good o n reads writes s =
     read : ℕ
     read = cond (eqb (o .kind) 0) (bitOr 0 (2 ^ key)) 0
 
+    back : ℕ
+    back = cond (bit backs (o .key)) 10 (cond (eqb (o .argument) t) 0 11)
+
     body : ℕ
-    body = cond (eqb (o .kind) 0) (cond (named n (o .argument)) (cond (bit reads (o .key)) 10 (cond (bit writes (o .key)) 11 0)) 9) (cond (bit writes (o .key)) 10 0)
+    body =
+        cond (eqb (o .kind) 0) (cond (named n (o .argument)) (cond (bit writes (o .key)) back (cond (bit reads (o .key)) 10 0)) 9)
+        (cond (bit writes (o .key)) 10 0)
 
     bit-is : eqb (o .kind) 0 ≡ true → read ≡ bitOr 0 (2 ^ key)
     bit-is e = ap (λ (x : Bool). cond x (bitOr 0 (2 ^ key)) 0) e
@@ -60,9 +65,9 @@ faults-good o n reads writes s =
     name e q =
         ⊎-elim (λ y. y) (λ y. absurd (subst T (sym (one-bit key) ∙ ap (λ x. bit x key) (sym (bit-is e) ∙ sym (ap (λ (x : Bool). cond x 0 read) (false-eq (named n (o .argument)) y)) ∙ q) ∙ bit-none key) tt)) (decide (named n (o .argument)))
 
-    go : (z m r w : Bool) → (T z → T m × T (not r)) → T (not w) → _≡_ {A = ℕ} (cond z (cond m (cond r 10 (cond w 11 0)) 9) (cond w 10 0)) 0
-    go z m r true f e = absurd e
-    go false m r false f e = refl
-    go true false r false f e = absurd (f tt .0)
-    go true true true false f e = absurd (f tt .1)
-    go true true false false f e = refl
+    go : (z m r w : Bool) (k : ℕ) → (T z → T m × T (not r)) → T (not w) → _≡_ {A = ℕ} (cond z (cond m (cond w k (cond r 10 0)) 9) (cond w 10 0)) 0
+    go z m r true k f e = absurd e
+    go false m r false k f e = refl
+    go true false r false k f e = absurd (f tt .0)
+    go true true true false k f e = absurd (f tt .1)
+    go true true false false k f e = refl

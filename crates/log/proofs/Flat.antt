@@ -1,19 +1,20 @@
 -- The loop over all bodies of a log: the masks at a body are of the keys since its transaction began, and all bodies so far are good. Assumes nothing.
 use Prim.Native.Nat.{ℕ, zero, suc, _+_, _-_, _%_, _≤_, _<_}
 use native.Mathlib.Omega.{arith}
-use mathlib.Core.Path.{_≡_, refl, sym, ap, ap₂, subst, _∙_}
+use mathlib.Core.Path.{_≡_, sym, ap, ap₂, subst, _∙_}
 use mathlib.Core.Logic.{_≢_, _⊎_, ⊎-elim}
 use mathlib.Core.Bool.{Bool, cond}
 use mathlib.Core.List.{List}
 use lib.Dec.{eqb}
 use Rattle.model.specs.Log.{operationsIn, countAt, startAt, countsBefore, keyAt, firstNumber, bodyNumber, bodiesNumber}
 use Rattle.model.proofs.Basics.{same?}
-use Rattle.model.proofs.Loaded.{first-on}
+use Rattle.model.proofs.Loaded.{none-found}
 use borrow.Author.Tests.{eq-eqb, ne-eqb}
 use Rattle.log.specs.Tests.{bodyBy, faultsBy, markBy, GoodEntries, GoodTo, startsAt}
 use Rattle.log.specs.Reading.{recordAt, BodyIn}
 use Rattle.log.specs.declared.Body.{Body}
-use Rattle.log.proofs.Numbers.{maskAt, mask-next, masks-start, body-is}
+use Rattle.log.proofs.Keys.{maskAt, backsAt, mask-next, masks-start}
+use Rattle.log.proofs.Numbers.{body-is}
 use Rattle.log.proofs.Placing.{placed-within, placed-entry}
 use Rattle.log.proofs.Faults.{faults-good}
 use Rattle.log.proofs.Starts.{starts-none, starts-some, starts-whole, good-starts}
@@ -27,7 +28,7 @@ pub record Flat (b : List ℕ) (n j i reads writes : ℕ) : Type 0 where
   pub whole : (t : ℕ) → t < n → since < startAt b t + countAt b t → since ≤ startAt b t
   pub reads-is : reads ≡ maskAt b since (i - since) 0
   pub writes-is : writes ≡ maskAt b since (i - since) 1
-  pub good : (t m : ℕ) → t < n → m < countAt b t → startAt b t + m < i → bodyNumber b (startAt b t) m ≡ 0
+  pub good : (t m : ℕ) → t < n → m < countAt b t → startAt b t + m < i → bodyNumber b t (startAt b t) m ≡ 0
 
 pub flat-start : (b : List ℕ) (n : ℕ) → Flat b n 0 0 0 0
 flat-start b n =
@@ -80,28 +81,32 @@ module _ (b : List ℕ) (n : ℕ) (p : GoodEntries b n) (i reads writes : ℕ) w
         good = λ t m l q e. ⊎-elim (λ (z : startAt b t + m ≡ i). now t m l q z) (λ (z : startAt b t + m ≢ i). f .good t m l q (omega arith)) (same? (startAt b t + m) i);
       }
     where
-      sound : (o .key < 32) × (bodyBy o n reads writes ≡ 0)
-      sound = faults-good o n reads writes s
+      sound : (t backs : ℕ) → (o .key < 32) × (bodyBy o n t reads writes backs ≡ 0)
+      sound t backs = faults-good o n t reads writes backs s
+
+      small : o .key < 32
+      small = sound 0 0 .0
 
       place : f .since + (i - f .since) ≡ i
       place = omega (arith, f .low)
 
       marked : (mask z : ℕ) → mask ≡ maskAt b (f .since) (i - f .since) z → markBy mask (o .kind) z key ≡ maskAt b (f .since) (i + 1 - f .since) z
       marked mask z e =
-          let same : key ≡ o .key = omega (arith, k, sound .0) in
+          let same : key ≡ o .key = omega (arith, k, small) in
           let next : suc (i - f .since) ≡ i + 1 - f .since = omega (arith, f .low) in
           let at : o ≡ recordAt b (f .since + (i - f .since)) = is ∙ ap (recordAt b) (sym place) in
-          let low : keyAt b (f .since + (i - f .since)) < 32 = omega (arith, sound .0, ap (λ (y : Body). y .key) at) in
+          let low : keyAt b (f .since + (i - f .since)) < 32 = omega (arith, small, ap (λ (y : Body). y .key) at) in
           ap (markBy mask (o .kind) z) same ∙ ap₂ (λ u (v : Body). markBy u (v .kind) z (v .key)) e at ∙ mask-next b (f .since) (i - f .since) z low ∙ ap (λ u. maskAt b (f .since) u z) next
 
-      now : (t m : ℕ) → t < n → m < countAt b t → startAt b t + m ≡ i → bodyNumber b (startAt b t) m ≡ 0
+      now : (t m : ℕ) → t < n → m < countAt b t → startAt b t + m ≡ i → bodyNumber b t (startAt b t) m ≡ 0
       now t m l q e =
           let first : f .since ≡ startAt b t = omega (arith, f .last t l (omega (arith, e)), f .whole t l (omega (arith, e, f .low))) in
           let far : i - f .since ≡ m = omega (arith, e, first) in
-          sym (body-is b (startAt b t) m)
-          ∙ ap₂ (λ (v : Body) c. bodyBy v c (maskAt b (startAt b t) m 0) (maskAt b (startAt b t) m 1)) (sym (is ∙ ap (recordAt b) (sym e))) (sym (p .count))
-          ∙ ap₂ (λ u v. bodyBy o n u v) (sym (f .reads-is ∙ ap₂ (λ u v. maskAt b u v 0) first far)) (sym (f .writes-is ∙ ap₂ (λ u v. maskAt b u v 1) first far))
-          ∙ sound .1
+          let backs = backsAt b (startAt b t) m in
+          sym (body-is b (startAt b t) t m)
+          ∙ ap₂ (λ (v : Body) c. bodyBy v c t (maskAt b (startAt b t) m 0) (maskAt b (startAt b t) m 1) backs) (sym (is ∙ ap (recordAt b) (sym e))) (sym (p .count))
+          ∙ ap₂ (λ u v. bodyBy o n t u v backs) (sym (f .reads-is ∙ ap₂ (λ u v. maskAt b u v 0) first far)) (sym (f .writes-is ∙ ap₂ (λ u v. maskAt b u v 1) first far))
+          ∙ sound t backs .1
 
 -- where there is a body there is an entry 0, which starts at body 0
 pub some-entry : (b : List ℕ) (n i : ℕ) → GoodEntries b n → i < operationsIn b → 0 < n
@@ -120,17 +125,12 @@ flat-body b n i p l =
 pub flat-record : (b : List ℕ) (n i : ℕ) → GoodEntries b n → i < operationsIn b → recordAt b (startAt b 0 + i) ≡ recordAt b i
 flat-record b n i p l = let e : startAt b 0 + i ≡ i = omega (arith, from-zero b n i p l) in ap (recordAt b) e
 
-pub first-none : (f : ℕ → ℕ) (n : ℕ) → ((i : ℕ) → i < n → f i ≡ 0) → firstNumber f n ≡ 0
-unfolding firstNumber
-first-none f zero g = refl
-first-none f (suc n) g = first-on f n (first-none f n (λ i l. g i (omega arith))) (g n (omega arith))
-
 -- where the first i bodies are good, so is each transaction that has only bodies of these
 pub flat-good : (b : List ℕ) (n j i reads writes : ℕ) → Flat b n j i reads writes → GoodTo b n i
 unfolding bodiesNumber
 flat-good b n j i reads writes f t l e =
-    first-none (bodyNumber b (startAt b t)) (countAt b t) (λ m k. f .good t m l k (omega (arith, e)))
+    none-found (bodyNumber b t (startAt b t)) (countAt b t) (λ m k. f .good t m l k (omega (arith, e)))
 
 -- where these are all bodies, each transaction is good
 pub good-all : (b : List ℕ) (n : ℕ) → GoodEntries b n → (r : ℕ) → r ≡ operationsIn b → GoodTo b n r → firstNumber (bodiesNumber b) n ≡ 0
-good-all b n p r e g = first-none (bodiesNumber b) n (λ t l. g t l (omega (arith, e, placed-within b n p t l)))
+good-all b n p r e g = none-found (bodiesNumber b) n (λ t l. g t l (omega (arith, e, placed-within b n p t l)))

@@ -1,29 +1,24 @@
 -- The tests that the code makes are the model's; one round more of each loop. Assumes nothing.
-use Prim.Native.Nat.{ℕ, zero, suc, _+_, _*_, _^_, _≤_, _<_}
+use Prim.Native.Nat.{ℕ, zero, suc, _+_, _*_, _≤_, _<_}
 use native.Mathlib.Omega.{arith}
 use native.Mathlib.Numerals.{add-one}
 use mathlib.Core.Path.{_≡_, refl, sym, ap, ap₂, subst, _∙_}
 use mathlib.Core.Logic.{_≢_}
-use mathlib.Core.Bool.{Bool, true, false, not, cond, _&&_, _||_, or-false}
+use mathlib.Core.Bool.{Bool, true, false, not, cond, _&&_, _||_}
 use mathlib.Core.List.{List}
 use lib.Dec.{T, eqb, ltb, eqb→eq, nltb→le}
-use lib.Bits.{bitOr, or-lt}
 use lib.ListN.{length}
-use lib.Pow.{pow-lt}
-use Rattle.model.specs.Lists.{bit, wordOf, upTo}
+use Rattle.model.specs.Lists.{bit}
 use Rattle.model.specs.History.{start}
-use Rattle.model.specs.Log.{transactionsIn, operationsIn, countAt, startAt, countsBefore, kindAt, keyAt, argumentAt, orElse, firstNumber, entryNumber, seen, bodyNumber, bodiesNumber, loadNumber}
-use Rattle.model.proofs.Words.{bit-word, word-lt}
-use Rattle.model.proofs.Masks.{bit-or, bit-one, same-bits}
-use Rattle.model.proofs.Loops.{any-snoc}
-use Rattle.model.proofs.Basics.{eqb-comm}
+use Rattle.model.specs.Log.{transactionsIn, operationsIn, countAt, startAt, countsBefore, kindAt, keyAt, argumentAt, orElse, firstNumber, entryNumber, seen, backAt, seenBack, again, bodyNumber, bodiesNumber, loadNumber}
 use Rattle.model.proofs.Loaded.{Bytes, first-suc, or-else-none, or-else-some, first-on, first-stop, first-out, counts-suc, counts-mono, good-entry, good-body}
 use borrow.Author.Tests.{eq-eqb, ne-eqb, lt-ltb, le-ltb}
-use Rattle.log.specs.Tests.{entryBy, nextBy, summedTo, named, readBy, writeBy, bodyBy, markBy}
+use Rattle.log.specs.Tests.{entryBy, nextBy, summedTo, named, backBy, readBy, writeBy, bodyBy, markBy, markBack}
 use Rattle.log.specs.Reading.{entryAt, recordAt}
 use Rattle.log.specs.declared.Body.{Body}
 use Rattle.log.specs.declared.entries.Summed.{Summed}
 use Rattle.log.specs.declared.view.Entry.{Entry}
+use Rattle.log.proofs.Keys.{maskAt, backsAt, masks-start, backs-start, mask-bit, backs-bit, mask-next, backs-next}
 
 -- ---- entries
 
@@ -66,50 +61,12 @@ pub within : (b : List ℕ) → firstNumber (entryNumber b) (transactionsIn b) �
 within b e s t l =
     omega (arith, good-entry b t (first-out (entryNumber b) (transactionsIn b) e t l) .start-is, counts-suc b t, counts-mono b (suc t) (transactionsIn b) l, s)
 
--- ---- the keys seen so far, as a mask
+-- ---- a body
 
 module _ (b : List ℕ) (first : ℕ) where
-  pub seen-suc : (m x k : ℕ) → seen b first (suc m) x k ≡ (seen b first m x k || (eqb (kindAt b (first + m)) x && eqb (keyAt b (first + m)) k))
-  unfolding seen
-  seen-suc m x k = any-snoc (λ j. eqb (kindAt b (first + j)) x && eqb (keyAt b (first + j)) k) (upTo m) m
-
-  -- the mask of the keys of this kind in the first m bodies
-  unfoldable pub maskAt : ℕ → ℕ → ℕ
-  maskAt m x = wordOf 32 (seen b first m x)
-
-  pub mask-next : (m x : ℕ) → keyAt b (first + m) < 32 → markBy (maskAt m x) (kindAt b (first + m)) x (keyAt b (first + m)) ≡ maskAt (suc m) x
-  unfolding markBy maskAt
-  mask-next m x l =
-      go (eqb (kindAt b (first + m)) x) (λ k. seen-suc m x k)
-    where
-      key : ℕ
-      key = keyAt b (first + m)
-
-      swap : (i : ℕ) → eqb i key ≡ eqb key i
-      swap i = eqb-comm i key
-
-      go : (a : Bool) → ((k : ℕ) → seen b first (suc m) x k ≡ (seen b first m x k || (a && eqb key k)))
-          → cond a (bitOr (maskAt m x) (2 ^ key)) (maskAt m x) ≡ maskAt (suc m) x
-      go true f =
-          same-bits 32 (bitOr (maskAt m x) (2 ^ key)) (seen b first (suc m) x) (or-lt 32 (maskAt m x) (2 ^ key) (word-lt 32 (seen b first m x)) (pow-lt l))
-          (λ i k. bit-or (maskAt m x) (2 ^ key) i ∙ ap₂ (λ p q. p || q) (bit-word 32 (seen b first m x) i k) (bit-one key i ∙ swap i) ∙ sym (f i))
-      go false f =
-          same-bits 32 (maskAt m x) (seen b first (suc m) x) (word-lt 32 (seen b first m x))
-          (λ i k. bit-word 32 (seen b first m x) i k ∙ sym (or-false (seen b first m x i)) ∙ sym (f i))
-
-  -- ---- a body
-
-  pub mask-bit : (m x : ℕ) → (k : ℕ) → k < 32 → bit (maskAt m x) k ≡ seen b first m x k
-  unfolding maskAt
-  mask-bit m x k l = bit-word 32 (seen b first m x) k l
-
-  pub masks-start : (x : ℕ) → 0 ≡ maskAt 0 x
-  unfolding seen maskAt
-  masks-start x = refl
-
-  pub body-is : (m : ℕ) → bodyBy (recordAt b (first + m)) (transactionsIn b) (maskAt m 0) (maskAt m 1) ≡ bodyNumber b first m
-  unfolding bodyBy bodyNumber readBy writeBy named
-  body-is m =
+  pub body-is : (t m : ℕ) → bodyBy (recordAt b (first + m)) (transactionsIn b) t (maskAt b first m 0) (maskAt b first m 1) (backsAt b first m) ≡ bodyNumber b t first m
+  unfolding bodyBy bodyNumber readBy backBy writeBy named again backAt
+  body-is t m =
       same (ltb 1 kind) 7 (cond (ltb 31 key) 8 by) (cond (ltb 31 key) 8 is)
       (λ s. same (ltb 31 key) 8 by is (λ t. go (eqb kind 0) (λ u. eqb→eq kind 0 u) (λ u. one kind (nltb→le 1 kind s) u) (omega (arith, nltb→le 31 key t))))
     where
@@ -125,11 +82,23 @@ module _ (b : List ℕ) (first : ℕ) where
       st : Bool
       st = eqb (argumentAt b (first + m)) start
 
+      own : Bool
+      own = eqb (argumentAt b (first + m)) t
+
+      -- a read after writes, read-backs and reads of its key
+      reading : Bool → Bool → Bool → ℕ
+      reading w k r = cond w (cond k 10 (cond own 0 11)) (cond r 10 0)
+
       by : ℕ
-      by = cond (eqb kind 0) (cond (lo || st) (cond (bit (maskAt m 0) key) 10 (cond (bit (maskAt m 1) key) 11 0)) 9) (cond (bit (maskAt m 1) key) 10 0)
+      by =
+          cond (eqb kind 0) (cond (lo || st) (reading (bit (maskAt b first m 1) key) (bit (backsAt b first m) key) (bit (maskAt b first m 0) key)) 9)
+          (cond (bit (maskAt b first m 1) key) 10 0)
 
       is : ℕ
-      is = cond (eqb kind 0 && (not lo && not st)) 9 (cond (seen b first m kind key) 10 (cond (eqb kind 0 && seen b first m 1 key) 11 0))
+      is =
+          cond (eqb kind 0 && (not lo && not st)) 9
+          (cond (cond (eqb kind 0 && seen b first m 1 key) (seenBack b first m key) (seen b first m kind key)) 10
+          (cond ((eqb kind 0 && seen b first m 1 key) && not own) 11 0))
 
       turn : (x y : Bool) (n : ℕ) → _≡_ {A = ℕ} (cond (x || y) n 9) (cond (not x && not y) 9 n)
       turn true y n = refl
@@ -145,50 +114,66 @@ module _ (b : List ℕ) (first : ℕ) where
       one (suc zero) l t = refl
       one (suc (suc x)) l t = absurd (omega arith)
 
+      step : (w k r o : Bool) → _≡_ {A = ℕ} (cond w (cond k 10 (cond o 0 11)) (cond r 10 0)) (cond (cond w k r) 10 (cond (w && not o) 11 0))
+      step true true r o = refl
+      step true false r true = refl
+      step true false r false = refl
+      step false k true o = refl
+      step false k false o = refl
+
       go : (r : Bool) → (T r → kind ≡ 0) → (T (not r) → kind ≡ 1) → key < 32
-          → _≡_ {A = ℕ} (cond r (cond (lo || st) (cond (bit (maskAt m 0) key) 10 (cond (bit (maskAt m 1) key) 11 0)) 9) (cond (bit (maskAt m 1) key) 10 0))
-          (cond (r && (not lo && not st)) 9 (cond (seen b first m kind key) 10 (cond (r && seen b first m 1 key) 11 0)))
+          → _≡_ {A = ℕ} (cond r (cond (lo || st) (reading (bit (maskAt b first m 1) key) (bit (backsAt b first m) key) (bit (maskAt b first m 0) key)) 9) (cond (bit (maskAt b first m 1) key) 10 0))
+          (cond (r && (not lo && not st)) 9
+          (cond (cond (r && seen b first m 1 key) (seenBack b first m key) (seen b first m kind key)) 10 (cond ((r && seen b first m 1 key) && not own) 11 0)))
       go true f g l =
-          turn lo st (cond (bit (maskAt m 0) key) 10 (cond (bit (maskAt m 1) key) 11 0))
-          ∙ ap₂ {C = ℕ} (λ (x y : Bool). cond (not lo && not st) 9 (cond x 10 (cond y 11 0)))
-          (mask-bit m 0 key l ∙ ap (λ x. seen b first m x key) (sym (f tt))) (mask-bit m 1 key l)
+          turn lo st (reading (bit (maskAt b first m 1) key) (bit (backsAt b first m) key) (bit (maskAt b first m 0) key))
+          ∙ ap {B = ℕ} (λ (x : ℕ). cond (not lo && not st) 9 x)
+          (ap (λ (w : Bool). reading w (bit (backsAt b first m) key) (bit (maskAt b first m 0) key)) (mask-bit b first m 1 key l)
+          ∙ ap₂ (λ (k r : Bool). reading (seen b first m 1 key) k r) (backs-bit b first m key l) (mask-bit b first m 0 key l ∙ ap (λ x. seen b first m x key) (sym (f tt)))
+          ∙ step (seen b first m 1 key) (seenBack b first m key) (seen b first m kind key) own)
       go false f g l =
-          ap {B = ℕ} (λ (x : Bool). cond x 10 0) (mask-bit m 1 key l ∙ ap (λ x. seen b first m x key) (sym (g tt)))
+          ap {B = ℕ} (λ (x : Bool). cond x 10 0) (mask-bit b first m 1 key l ∙ ap (λ x. seen b first m x key) (sym (g tt)))
 
 -- ---- the loop over a transaction's bodies
 
--- after m bodies of the transaction whose first body is given: all are good, and the masks are of the keys that they read and write
-pub record Sofar (b : List ℕ) (first m reads writes : ℕ) : Type 0 where
-  pub none : firstNumber (bodyNumber b first) m ≡ 0
+-- after m bodies of transaction t, whose first body is given: all are good, and the masks are of the keys that they read, write and read back
+pub record Sofar (b : List ℕ) (t first m reads writes backs : ℕ) : Type 0 where
+  pub none : firstNumber (bodyNumber b t first) m ≡ 0
   pub reads-is : reads ≡ maskAt b first m 0
   pub writes-is : writes ≡ maskAt b first m 1
+  pub backs-is : backs ≡ backsAt b first m
 
-pub sofar-start : (b : List ℕ) (first : ℕ) → Sofar b first 0 0 0
+pub sofar-start : (b : List ℕ) (t first : ℕ) → Sofar b t first 0 0 0 0
 unfolding firstNumber
-sofar-start b first = record { none = refl; reads-is = masks-start b first 0; writes-is = masks-start b first 1 }
+sofar-start b t first =
+    record { none = refl; reads-is = masks-start b first 0; writes-is = masks-start b first 1; backs-is = backs-start b first }
 
-module _ (b : List ℕ) (first m n reads writes x : ℕ) (o : Body) (count : n ≡ transactionsIn b) (s : Sofar b first m reads writes)
-    (is : o ≡ recordAt b (first + m)) (e : x ≡ bodyBy o n reads writes) where
-  pub sofar-number : x ≡ bodyNumber b first m
+module _ (b : List ℕ) (t first m n reads writes backs x : ℕ) (o : Body) (count : n ≡ transactionsIn b) (s : Sofar b t first m reads writes backs)
+    (is : o ≡ recordAt b (first + m)) (e : x ≡ bodyBy o n t reads writes backs) where
+  pub sofar-number : x ≡ bodyNumber b t first m
   sofar-number =
-      e ∙ ap₂ (λ y k. bodyBy y k reads writes) is count
-      ∙ ap₂ (λ r w. bodyBy (recordAt b (first + m)) (transactionsIn b) r w) (s .reads-is) (s .writes-is) ∙ body-is b first m
+      e ∙ ap₂ (λ y k. bodyBy y k t reads writes backs) is count
+      ∙ ap₂ (λ r w. bodyBy (recordAt b (first + m)) (transactionsIn b) t r w backs) (s .reads-is) (s .writes-is)
+      ∙ ap (bodyBy (recordAt b (first + m)) (transactionsIn b) t (maskAt b first m 0) (maskAt b first m 1)) (s .backs-is) ∙ body-is b first t m
 
-  pub sofar-stop : (c : ℕ) → m < c → x ≢ 0 → x ≡ firstNumber (bodyNumber b first) c
+  pub sofar-stop : (c : ℕ) → m < c → x ≢ 0 → x ≡ firstNumber (bodyNumber b t first) c
   sofar-stop c l f =
-      sofar-number ∙ sym (first-stop (bodyNumber b first) m c l (s .none) (λ z. f (sofar-number ∙ z)))
+      sofar-number ∙ sym (first-stop (bodyNumber b t first) m c l (s .none) (λ z. f (sofar-number ∙ z)))
 
   pub sofar-key : x ≡ 0 → o .key < 32
-  sofar-key z = omega (arith, good-body b first m (sym sofar-number ∙ z) .key, ap (λ (y : Body). y .key) is)
+  sofar-key z = omega (arith, good-body b t first m (sym sofar-number ∙ z) .key, ap (λ (y : Body). y .key) is)
 
-  pub sofar-next : x ≡ 0 → (r w : ℕ) → r ≡ markBy reads (o .kind) 0 (o .key) → w ≡ markBy writes (o .kind) 1 (o .key) → Sofar b first (m + 1) r w
-  sofar-next z r w p q =
-      let key : keyAt b (first + m) < 32 = omega (arith, good-body b first m (sym sofar-number ∙ z) .key) in
-      subst (λ i. Sofar b first i r w) (sym (add-one m))
+  pub sofar-next : x ≡ 0 → (r w k : ℕ) → k ≡ markBack backs writes (o .kind) (o .key) → r ≡ markBy reads (o .kind) 0 (o .key) → w ≡ markBy writes (o .kind) 1 (o .key)
+      → Sofar b t first (m + 1) r w k
+  sofar-next z r w k h p q =
+      let key : keyAt b (first + m) < 32 = omega (arith, good-body b t first m (sym sofar-number ∙ z) .key) in
+      subst (λ i. Sofar b t first i r w k) (sym (add-one m))
       (record {
-        none = first-on (bodyNumber b first) m (s .none) (sym sofar-number ∙ z);
-        reads-is = p ∙ ap₂ (λ y (k : Body). markBy y (k .kind) 0 (k .key)) (s .reads-is) is ∙ mask-next b first m 0 key;
-        writes-is = q ∙ ap₂ (λ y (k : Body). markBy y (k .kind) 1 (k .key)) (s .writes-is) is ∙ mask-next b first m 1 key;
+        none = first-on (bodyNumber b t first) m (s .none) (sym sofar-number ∙ z);
+        reads-is = p ∙ ap₂ (λ y (c : Body). markBy y (c .kind) 0 (c .key)) (s .reads-is) is ∙ mask-next b first m 0 key;
+        writes-is = q ∙ ap₂ (λ y (c : Body). markBy y (c .kind) 1 (c .key)) (s .writes-is) is ∙ mask-next b first m 1 key;
+        backs-is = h ∙ ap₂ (λ y (c : Body). markBack y writes (c .kind) (c .key)) (s .backs-is) is
+            ∙ ap (λ y. markBack (backsAt b first m) y (kindAt b (first + m)) (keyAt b (first + m))) (s .writes-is) ∙ backs-next b first m key;
       })
 
 -- ---- the loop over the transactions

@@ -1,4 +1,4 @@
--- The tests of entries and bodies as the code makes them: from the sum so far, and from two masks of keys. Laws in proofs/ say that they are the
+-- The tests of entries and bodies as the code makes them: from the sum so far, and from three masks of keys. Laws in proofs/ say that they are the
 -- model's. Assumes nothing.
 use Prim.Native.Nat.{ℕ, zero, suc, _+_, _*_, _^_, _/_, _%_, _≤_, _<_}
 use mathlib.Core.Path.{_≡_}
@@ -31,27 +31,35 @@ summedTo b n = record { number = firstNumber (entryNumber b) n; sum = countsBefo
 unfoldable pub named : ℕ → ℕ → Bool
 named n argument = ltb argument n || eqb argument start
 
--- a read of a key, in a log of n transactions, after reads and writes of these keys
-unfoldable pub readBy : ℕ → ℕ → ℕ → ℕ → ℕ → ℕ
-readBy n reads writes key argument =
-    cond (named n argument) (cond (bit reads key) 10 (cond (bit writes key) 11 0)) 9
+-- a read-back by t, the second of its key or not
+unfoldable pub backBy : ℕ → Bool → ℕ → ℕ
+backBy t second argument = cond second 10 (cond (eqb argument t) 0 11)
+
+-- a read of a key by t, in a log of n transactions, after reads, writes and read-backs of these keys
+unfoldable pub readBy : ℕ → ℕ → ℕ → ℕ → ℕ → ℕ → ℕ → ℕ
+readBy n t reads writes backs key argument =
+    cond (named n argument) (cond (bit writes key) (backBy t (bit backs key) argument) (cond (bit reads key) 10 0)) 9
 
 -- a write of a key after writes of these keys
 unfoldable pub writeBy : ℕ → ℕ → ℕ
 writeBy writes key = cond (bit writes key) 10 0
 
--- a body, after reads and writes of these keys
-unfoldable pub bodyBy : Body → ℕ → ℕ → ℕ → ℕ
-bodyBy o n reads writes =
+-- a body of t, after reads, writes and read-backs of these keys
+unfoldable pub bodyBy : Body → ℕ → ℕ → ℕ → ℕ → ℕ → ℕ
+bodyBy o n t reads writes backs =
     cond (ltb 1 (o .kind)) 7
     (cond (ltb 31 (o .key)) 8
-    (cond (eqb (o .kind) 0) (readBy n reads writes (o .key) (o .argument)) (writeBy writes (o .key))))
+    (cond (eqb (o .kind) 0) (readBy n t reads writes backs (o .key) (o .argument)) (writeBy writes (o .key))))
 
 -- the mask with the key, where the kind is the one that is marked
 unfoldable pub markBy : ℕ → ℕ → ℕ → ℕ → ℕ
 markBy mask kind which key = cond (eqb kind which) (bitOr mask (2 ^ key)) mask
 
--- a body after reads and writes of these keys, as bits of which none is set where it is good
+-- the mask of the keys read back, with the key where the body reads it after a write of it
+unfoldable pub markBack : ℕ → ℕ → ℕ → ℕ → ℕ
+markBack backs writes kind key = cond (bit writes key) (markBy backs kind 0 key) backs
+
+-- a body after reads and writes of these keys, as bits of which none is set where it is good and no read-back
 unfoldable pub faultsBy : Body → ℕ → ℕ → ℕ → ℕ
 faultsBy o n reads writes =
     let key = o .key % 32 in

@@ -1,12 +1,12 @@
-// Load's tests of the bodies: 7 to 11. The keys that a transaction has read and written so far are two masks.
-// `count_good` goes over all bodies in one loop, with no branch on what a body is, and counts those before the first bad one. Where these are not all,
+// Load's tests of the bodies: 7 to 11. The keys that a transaction has read, written and read back so far are three masks.
+// `count_good` goes over the bodies in one loop, with no branch on what a body is, to the first that is bad or a read-back. Where these are not all,
 // `first_refused` goes body by body through the transactions that end behind them and finds the number.
 ghost use mathlib.Core.Path.{_≡_};
 ghost use mathlib.Core.Bool.{cond};
 ghost use Prim.Native.Nat.{_<_};
 ghost use lib.Dec.{eqb};
 ghost use Rattle.model.specs.Log.{operationsIn, firstNumber, bodiesNumber};
-ghost use Rattle.log.specs.Tests.{named, readBy, writeBy, bodyBy, faultsBy, markBy, GoodEntries, GoodTo, Begun};
+ghost use Rattle.log.specs.Tests.{named, backBy, readBy, writeBy, bodyBy, faultsBy, markBy, markBack, GoodEntries, GoodTo, Begun};
 use crate::Body;
 use crate::view::body_of;
 use crate::view::entry_of;
@@ -21,6 +21,18 @@ fn mark(mask: u32, kind: usize, which: usize, key: u32) -> u32
     if kind == which { with(mask, key) } else { mask }
 }
 
+// The mask of the keys read back, with the key where the body reads it after a write of it.
+fn mark_back(backs: u32, writes: u32, kind: usize, key: u32) -> u32
+    requires { ⌜ key < 32 ⌝ }
+    ensures { λ r. ⌜ r ≡ markBack backs writes kind key ⌝ }
+{
+    if has(writes, key) {
+        mark(backs, kind, 0, key)
+    } else {
+        backs
+    }
+}
+
 // Whether a read's argument is below n, or 65535.
 fn names(argument: usize, n: usize) -> bool
     ensures { λ r. ⌜ r ≡ named n argument ⌝ }
@@ -30,18 +42,28 @@ fn names(argument: usize, n: usize) -> bool
 
 // ---- body by body
 
-// The number of a read: 9, 10, 11 or 0.
-fn read(argument: usize, n: usize, key: u32, reads: u32, writes: u32) -> u8
+// The number of a read-back by t: 10 where it is the second of its key, 11 where it names anything but t, or 0.
+fn read_back(argument: usize, t: usize, second: bool) -> u8
+    ensures { λ r. ⌜ r ≡ backBy t second argument ⌝ }
+{
+    if second {
+        return 10;
+    }
+    if argument == t { 0 } else { 11 }
+}
+
+// The number of a read by t: 9, 10, 11 or 0.
+fn read(argument: usize, n: usize, t: usize, key: u32, reads: u32, writes: u32, backs: u32) -> u8
     requires { ⌜ key < 32 ⌝ }
-    ensures { λ r. ⌜ r ≡ readBy n reads writes key argument ⌝ }
+    ensures { λ r. ⌜ r ≡ readBy n t reads writes backs key argument ⌝ }
 {
     if !names(argument, n) {
         return 9;
     }
-    if has(reads, key) {
-        return 10;
+    if has(writes, key) {
+        return read_back(argument, t, has(backs, key));
     }
-    if has(writes, key) { 11 } else { 0 }
+    if has(reads, key) { 10 } else { 0 }
 }
 
 // The number of a write: 10 or 0.
@@ -52,9 +74,9 @@ fn write(key: u32, writes: u32) -> u8
     if has(writes, key) { 10 } else { 0 }
 }
 
-// The number of a body: 7 to 11, or 0.
-fn number(o: Body, n: usize, reads: u32, writes: u32) -> u8
-    ensures { λ r. ⌜ r ≡ bodyBy o n reads writes ⌝ }
+// The number of a body of t: 7 to 11, or 0.
+fn number(o: Body, n: usize, t: usize, reads: u32, writes: u32, backs: u32) -> u8
+    ensures { λ r. ⌜ r ≡ bodyBy o n t reads writes backs ⌝ }
 {
     if o.kind > 1 {
         return 7;
@@ -63,7 +85,7 @@ fn number(o: Body, n: usize, reads: u32, writes: u32) -> u8
         return 8;
     }
     if o.kind == 0 {
-        return read(o.argument, n, o.key as u32, reads, writes);
+        return read(o.argument, n, t, o.key as u32, reads, writes, backs);
     }
     write(o.key as u32, writes)
 }
@@ -80,14 +102,16 @@ fn of_transaction(log: &[u8], n: usize, good: usize, t: usize) -> u8
     }
     let mut reads: u32 = 0;
     let mut writes: u32 = 0;
+    let mut backs: u32 = 0;
     let mut m: usize = 0;
     while m < count {
         let o = body_of(log, t, m);
-        let x = number(o, n, reads, writes);
+        let x = number(o, n, t, reads, writes, backs);
         if x != 0 {
             return x;
         }
         let key = o.key as u32;
+        backs = mark_back(backs, writes, o.kind, key);
         reads = mark(reads, o.kind, 0, key);
         writes = mark(writes, o.kind, 1, key);
         m += 1;
@@ -120,7 +144,7 @@ fn unnamed(argument: usize, n: usize, read: u32) -> u32
     if names(argument, n) { 0 } else { read }
 }
 
-// Bits of which one is set where a body is refused, with no branch.
+// Bits of which one is set where a body is refused or a read-back, with no branch.
 fn faults(o: Body, n: usize, reads: u32, writes: u32) -> usize
     ensures { λ r. ⌜ r ≡ faultsBy o n reads writes ⌝ }
 {
@@ -153,7 +177,7 @@ fn kept(mask: u32, starts: u8) -> u32
     if starts == 0 { mask } else { 0 }
 }
 
-// How many bodies from the first on are good. Only that these are has to be right: the others are tested one by one.
+// How many bodies from the first on are good and no read-backs. Only that these are good has to be right: the others are tested one by one.
 fn count_good(log: &[u8], n: usize, count: usize) -> usize
     requires { ⌜ GoodEntries (now log) n × (count ≡ operationsIn (now log)) ⌝ }
     ensures { λ r. ⌜ GoodTo (now (log .entry)) n r ⌝ }
@@ -161,21 +185,20 @@ fn count_good(log: &[u8], n: usize, count: usize) -> usize
     let starts = begins(log, n);
     let mut reads: u32 = 0;
     let mut writes: u32 = 0;
-    let mut bad: usize = 0;
-    let mut good: usize = 0;
     let mut i: usize = 0;
     while i < count {
         let o = body_of(log, 0, i);
         let key = (o.key % 32) as u32;
         let read = kept(reads, starts[i]);
         let written = kept(writes, starts[i]);
-        bad = bad | faults(o, n, read, written);
-        good += if bad == 0 { 1 } else { 0 };
+        if faults(o, n, read, written) != 0 {
+            return i;
+        }
         reads = mark(read, o.kind, 0, key);
         writes = mark(written, o.kind, 1, key);
         i += 1;
     }
-    good
+    count
 }
 
 // The number of the first body that is refused, or 0, in a log of n transactions and `count` bodies.

@@ -1,28 +1,81 @@
 -- The demands on the definitions, in the demands' own words. `b` is a list of bytes that Load takes, `h` the history that it holds, `e` the
--- encoding and `pruning` the second number of the setting. Each theorem cites the law that proves it; nothing is assumed but that Load takes b.
+-- encoding and `pruning` the second number of the setting. Each theorem cites the law that proves it; nothing is assumed but that Load takes b,
+-- and of `load-takes-every-well-formed` what it says.
 -- What the calls do is held to these definitions by their contracts (crate `checker`).
 use Prim.Native.Nat.{ℕ, _≤_, _<_}
-use mathlib.Core.Path.{_≡_}
+use native.Mathlib.Omega.{arith}
+use mathlib.Core.Path.{_≡_, refl, subst}
 use mathlib.Core.Logic.{_⊎_, _↔_, _≢_}
 use mathlib.Core.Option.{none, some}
 use mathlib.Core.List.{List}
 use lib.Dec.{T}
 use lib.ListN.{length}
-use Rattle.model.specs.History.{History, size, wellFormed, writes, isOrder, legal}
-use Rattle.model.specs.Log.{loadNumber, historyOf}
-use Rattle.model.specs.Polygraph.{goodRead, successor, Linked, isHead, tail, has, reach, pass, rows, unpruned, polygraph, Way, AcyclicSelection, Respects}
+use Rattle.model.specs.Lists.{All}
+use Rattle.model.specs.History.{History, start, size, operationsOf, isReadBack, readBacks, wellFormed, writes, reads, everyReadExplained, everyReadNamesWhatItSees, isOrder, legal, finalTable, withoutReadBacks}
+use Rattle.model.specs.Log.{startAt, backAt, loadNumber, historyOf, LaidOut}
+use Rattle.model.specs.Polygraph.{goodRead, edge, successor, Linked, isHead, tail, has, reach, pass, rows, unpruned, polygraph, Way, AcyclicSelection, Respects}
 use Rattle.model.specs.Search.{firstLegal, LexLess}
-use Rattle.model.proofs.Loaded.{Bytes, well-formed, loadable-log}
+use Rattle.model.proofs.Loaded.{Bytes, operationOf, back-is, history-size, keys-good, well-formed, loadable-log}
+use Rattle.model.proofs.Takes.{takes, laid-out}
+use Rattle.model.proofs.Twins.{goods-same, legal-same, first-same, polygraph-same, table-same, bare-alike}
+use Rattle.model.proofs.ReadBacks.{behind, backs-own, explained-sees}
+use Rattle.model.proofs.Legal.{reads-small, bad-in, good-other, legal-out}
+use Rattle.model.proofs.Known.{kinds-out}
 use Rattle.model.proofs.Pruning.{polygraph-iff, legal-iff, polygraph-done}
 use Rattle.model.proofs.Selection.{serializable, selections-kept, rows-reached}
 use Rattle.model.proofs.First.{first-some, first-none}
 use Rattle.model.proofs.Tails.{tail-final}
 use Rattle.model.proofs.Rings.{successor-lowest, tail-linked, ring-no-head, ring-no-chain}
 
--- Load takes only what document 01 lets through: a history of at most 32 transactions and 256 operations, each transaction with at most one read and one
--- write of a key, the read first, every field in its range.
+-- Load takes only what document 01 and card 1 let through: a history of at most 32 transactions and 256 operations, each transaction with at most one read of a
+-- key that looks at earlier transactions, then one write, then one read-back that names the transaction, every field in its range.
 pub load-takes-only-well-formed : (b : List ℕ) → Bytes b → loadNumber b ≡ 0 → T (wellFormed (historyOf b))
 load-takes-only-well-formed b bytes taken = well-formed b bytes taken
+
+-- Load takes only logs that are laid out so: as long as T and N say, the starts and N sums of the counts.
+pub load-takes-only-laid-out : (b : List ℕ) → loadNumber b ≡ 0 → LaidOut b
+load-takes-only-laid-out b taken = laid-out b taken
+
+-- Load takes every log that is laid out so and holds a well-formed history: together with the two before, these and no others.
+pub load-takes-every-well-formed : (b : List ℕ) → LaidOut b → T (wellFormed (historyOf b)) → loadNumber b ≡ 0
+load-takes-every-well-formed b laid good = takes b laid good
+
+-- ---- read-backs
+
+-- In a loaded log a read-back, by its definition a read with a write of its key before it in its transaction, names its own transaction.
+pub read-backs-name-their-own : (b : List ℕ) → loadNumber b ≡ 0 → let h = historyOf b in
+    (t : ℕ) → t < size h → All (λ o. (o .argument ≡ t) × T (writes h t (o .key))) (readBacks (operationsOf h t))
+read-backs-name-their-own b taken t l = backs-own (historyOf b) t (keys-good b taken t (subst (λ n. t < n) (history-size b) l))
+
+-- So 'every read explained' means in a loaded log that every read names what it sees: a read-back its own transaction's write, any other read the last
+-- earlier writer of the key, or the start.
+pub explained-by-what-it-sees : (b : List ℕ) → loadNumber b ≡ 0 → (o : List ℕ)
+    → everyReadExplained (historyOf b) o ≡ everyReadNamesWhatItSees (historyOf b) o
+explained-by-what-it-sees b taken = explained-sees (historyOf b) (λ t l. keys-good b taken t (subst (λ n. t < n) (history-size b) l))
+
+-- The place of an operation in its transaction, and that of its body in the log, say the same of it.
+pub read-backs-by-their-bytes : (b : List ℕ) (t m : ℕ) → isReadBack (behind (operationOf b t) m) (operationOf b t m) ≡ backAt b (startAt b t) m
+read-backs-by-their-bytes b t m = back-is b t m
+
+-- Its read-backs add no reader, no edge and no constraint to a history, loaded or not: without them it has the same good reads, the same legal orders, the
+-- same first one, the same polygraph in every setting, and leaves the same table.
+pub read-backs-add-nothing : (h : History) → let g = withoutReadBacks h in
+    (goodRead g ≡ goodRead h) × (legal g ≡ legal h) × (firstLegal g ≡ firstLegal h) × (polygraph g ≡ polygraph h)
+    × ((o : List ℕ) → finalTable g o ≡ finalTable h o)
+read-backs-add-nothing h =
+    let a = bare-alike h in
+    let g = withoutReadBacks h in
+    (goods-same g h a, legal-same g h a, first-same g h a, polygraph-same g h a, table-same g h a)
+
+-- A read before the write that names its own transaction gives t → t in every encoding, and no order is legal, with or without a read-back behind it.
+pub own-read-unexplained : (b : List ℕ) → loadNumber b ≡ 0 → let h = historyOf b in
+    (t k : ℕ) → T (reads h t k t) → ((e : ℕ) → T (edge h e t t)) × ((o : List ℕ) → T (legal h o) → ⊥)
+own-read-unexplained b taken t k r =
+    let h = historyOf b in
+    let ok = loadable-log b taken in
+    let small = reads-small h t k t r in
+    let bad = bad-in h t k t r (λ (e : t ≡ start). omega (arith, ok .few)) (λ g. good-other h k t t g refl) in
+    ((λ e. kinds-out h ok e (λ u v. T (edge h e u v)) (λ u v x. x) .bads t bad), λ o l. legal-out h (ok .few) o l .1 .bads t bad)
 
 -- ---- the first legal order: of every history, loaded or not
 

@@ -191,3 +191,8 @@ first-missing h f = found-unique h (firstLegal h) none (first-legal h) f
 -- a legal order has T numbers
 pub legal-length : (h : History) (o : List ℕ) → T (legal h o) → length o ≡ size h
 legal-length h o t = order-length (order-out (size h) o (legal-order h o t))
+
+-- the first legal order looks at a history only through its size and its legal orders
+pub first-by : (g h : History) → size g ≡ size h → legal g ≡ legal h → firstLegal g ≡ firstLegal h
+unfolding firstLegal
+first-by g h n l = λ i. firstOf (keep (l i) (arrangements (n i) (upTo (n i))))

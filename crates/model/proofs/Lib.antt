@@ -16,5 +16,8 @@ pub mod Tails
 pub mod Rings
 pub mod Sides
 pub mod Closed
+pub mod ReadBacks
 pub mod Loaded
+pub mod Twins
+pub mod Takes
 pub mod Demands

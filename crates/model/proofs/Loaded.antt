@@ -4,17 +4,18 @@ use native.Mathlib.Omega.{arith}
 use native.Mathlib.Nat.{not-suc-le-zero}
 use mathlib.Core.Path.{_≡_, refl, sym, ap, subst, _∙_}
 use mathlib.Core.Logic.{_⊎_, ⊎-elim, _≢_}
-use mathlib.Core.Bool.{Bool, true, false, not, cond, _&&_, _||_}
+use mathlib.Core.Bool.{Bool, true, false, not, cond, _&&_, _||_, Bool·not-not}
 use mathlib.Core.List.{List, [], _∷_, _++_, map}
 use lib.Dec.{T, eqb, ltb, leb, eqb→eq, eqb·suc-zero, ltb→lt, nltb→le, lt→ltb, le→leb}
 use lib.ListN.{length, getD, List·getD-eq-default}
-use Rattle.model.specs.Lists.{implies, all, upTo, All}
-use Rattle.model.specs.History.{Transaction, Operation, start, size, noTransaction, cabinetOf, operationsOf, isRead, isWrite, keysOnce, goodOperation, goodTransaction, operationCount, wellFormed}
-use Rattle.model.specs.Log.{byteAt, pairAt, transactionsIn, operationsIn, cabinetAt, countAt, startAt, countsBefore, bodyAt, kindAt, keyAt, argumentAt, orElse, firstNumber, entryNumber, seen, bodyNumber, bodiesNumber, loadNumber, operationAt, transactionAt, historyOf}
-use Rattle.model.proofs.Basics.{decide, clash, not-intro, and-in, implies-in, eq-eqb, same?, all-in, any-upTo-in, upTo-in, All-imp, All-map-in}
+use Rattle.model.specs.Lists.{implies, all, keepAfter, upTo, All}
+use Rattle.model.specs.History.{Transaction, Operation, start, size, noTransaction, cabinetOf, operationsOf, isRead, isWrite, isReadBack, outward, readBacks, keysOnce, goodOperation, goodKeys, goodTransaction, operationCount, wellFormed}
+use Rattle.model.specs.Log.{byteAt, pairAt, transactionsIn, operationsIn, cabinetAt, countAt, startAt, countsBefore, bodyAt, kindAt, keyAt, argumentAt, orElse, firstNumber, entryNumber, seen, backAt, seenBack, again, bodyNumber, bodiesNumber, loadNumber, operationAt, transactionAt, historyOf}
+use Rattle.model.proofs.Basics.{decide, clash, not-intro, eq-T, and-in, implies-in, eq-eqb, same?, all-in, all-upTo-in, any-upTo-in, upTo-in, All-imp, All-map-in}
 use Rattle.model.proofs.Words.{length-upTo, getD-upTo}
 use Rattle.model.proofs.Loops.{map-snoc, fold-snoc}
 use Rattle.model.proofs.Known.{Loadable}
+use Rattle.model.proofs.ReadBacks.{behind, any-behind}
 
 -- ---- the first number that is not 0
 
@@ -43,6 +44,11 @@ module _ (f : ℕ → ℕ) where
   pub first-on : (n : ℕ) → firstNumber f n ≡ 0 → f n ≡ 0 → firstNumber f (suc n) ≡ 0
   first-on n e g = first-suc n ∙ or-else-none (firstNumber f n) (f n) e ∙ g
 
+  -- nothing is found where every round finds nothing
+  pub none-found : (n : ℕ) → ((i : ℕ) → i < n → f i ≡ 0) → firstNumber f n ≡ 0
+  none-found zero g = first-none
+  none-found (suc n) g = first-on n (none-found n (λ i l. g i (omega arith))) (g n (omega arith))
+
   -- what is found in round n stays
   pub first-stop : (n m : ℕ) → n < m → firstNumber f n ≡ 0 → f n ≢ 0 → firstNumber f m ≡ f n
   first-stop n zero l e g = absurd (not-suc-le-zero l)
@@ -70,6 +76,10 @@ need : (a : Bool) (n x : ℕ) → cond a x (suc n) ≡ 0 → T a × (x ≡ 0)
 need true n x e = (tt, e)
 need false n x e = absurd (omega arith)
 
+pub neither : (a b : Bool) → T (not a) → T (not b) → T (not (a || b))
+neither true b s t = absurd s
+neither false b s t = t
+
 nor : (a b : Bool) → T (not (a || b)) → T (not a) × T (not b)
 nor true b t = absurd t
 nor false b t = (tt, t)
@@ -85,7 +95,7 @@ pub record Loaded (b : List ℕ) : Type 0 where
   pub cabinets : (t : ℕ) → t < transactionsIn b → cabinetAt b t ≤ 15
   pub starts : (t : ℕ) → t < transactionsIn b → startAt b t ≡ countsBefore b t
   pub sum : countsBefore b (transactionsIn b) ≡ operationsIn b
-  pub bodies : (t m : ℕ) → t < transactionsIn b → m < countAt b t → bodyNumber b (startAt b t) m ≡ 0
+  pub bodies : (t m : ℕ) → t < transactionsIn b → m < countAt b t → bodyNumber b t (startAt b t) m ≡ 0
 
 pub record GoodEntry (b : List ℕ) (t : ℕ) : Type 0 where
   pub cabinet : cabinetAt b t ≤ 15
@@ -118,39 +128,40 @@ loaded b e =
       cabinets = λ t l. good-entry b t (first-out (entryNumber b) n (p4 .0) t l) .cabinet;
       starts = λ t l. good-entry b t (first-out (entryNumber b) n (p4 .0) t l) .start-is;
       sum = eqb→eq (countsBefore b n) (operationsIn b) (p6 .0);
-      bodies = λ t m l k. first-out (bodyNumber b (startAt b t)) (countAt b t) (first-out (bodiesNumber b) n (p6 .1) t l) m k;
+      bodies = λ t m l k. first-out (bodyNumber b t (startAt b t)) (countAt b t) (first-out (bodiesNumber b) n (p6 .1) t l) m k;
     }
 
 -- a body with the number 0
-pub record GoodBody (b : List ℕ) (first m : ℕ) : Type 0 where
+pub record GoodBody (b : List ℕ) (t first m : ℕ) : Type 0 where
   pub kind : kindAt b (first + m) ≤ 1
   pub key : keyAt b (first + m) ≤ 31
   pub argument : T (implies (eqb (kindAt b (first + m)) 0) (ltb (argumentAt b (first + m)) (transactionsIn b) || eqb (argumentAt b (first + m)) start))
-  pub once : T (not (seen b first m (kindAt b (first + m)) (keyAt b (first + m))))
-  pub order : T (eqb (kindAt b (first + m)) 0) → T (not (seen b first m 1 (keyAt b (first + m))))
+  pub once : T (not (again b first m))
+  pub own : T (backAt b first m) → argumentAt b (first + m) ≡ t
 
-pub good-body : (b : List ℕ) (first m : ℕ) → bodyNumber b first m ≡ 0 → GoodBody b first m
+pub good-body : (b : List ℕ) (t first m : ℕ) → bodyNumber b t first m ≡ 0 → GoodBody b t first m
 unfolding bodyNumber
-good-body b first m e =
+good-body b t first m e =
     let i = first + m in
     let rd = eqb (kindAt b i) 0 in
     let lo = ltb (argumentAt b i) (transactionsIn b) in
     let st = eqb (argumentAt b i) start in
-    let c11 : ℕ = cond (rd && seen b first m 1 (keyAt b i)) 11 0 in
-    let c10 : ℕ = cond (seen b first m (kindAt b i) (keyAt b i)) 10 c11 in
+    let itself = eqb (argumentAt b i) t in
+    let c11 : ℕ = cond (backAt b first m && not itself) 11 0 in
+    let c10 : ℕ = cond (again b first m) 10 c11 in
     let c9 : ℕ = cond (rd && (not lo && not st)) 9 c10 in
     let c8 : ℕ = cond (ltb 31 (keyAt b i)) 8 c9 in
     let p7 = skip (ltb 1 (kindAt b i)) 6 c8 e in
     let p8 = skip (ltb 31 (keyAt b i)) 7 c9 (p7 .1) in
     let p9 = skip (rd && (not lo && not st)) 8 c10 (p8 .1) in
-    let p10 = skip (seen b first m (kindAt b i) (keyAt b i)) 9 c11 (p9 .1) in
-    let p11 = skip (rd && seen b first m 1 (keyAt b i)) 10 0 (p10 .1) in
+    let p10 = skip (again b first m) 9 c11 (p9 .1) in
+    let p11 = skip (backAt b first m && not itself) 10 0 (p10 .1) in
     record {
       kind = nltb→le 1 (kindAt b i) (p7 .0);
       key = nltb→le 31 (keyAt b i) (p8 .0);
       argument = turn rd lo st (p9 .0);
       once = p10 .0;
-      order = nand rd (seen b first m 1 (keyAt b i)) (p11 .0);
+      own = λ x. eqb→eq (argumentAt b i) t (eq-T (Bool·not-not itself) (nand (backAt b first m) (not itself) (p11 .0) x));
     }
   where
     turn : (r l s : Bool) → T (not (r && (not l && not s))) → T (implies r (l || s))
@@ -182,8 +193,8 @@ module _ (b : List ℕ) (ok : Loaded b) where
   pub entry-in : (t : ℕ) → t < transactionsIn b → 4 + 4 * t + 4 ≤ length b
   entry-in t l = omega (arith, ok .long)
 
-  pub body-good : (t m : ℕ) → t < transactionsIn b → m < countAt b t → GoodBody b (startAt b t) m
-  body-good t m l k = good-body b (startAt b t) m (ok .bodies t m l k)
+  pub body-good : (t m : ℕ) → t < transactionsIn b → m < countAt b t → GoodBody b t (startAt b t) m
+  body-good t m l k = good-body b t (startAt b t) m (ok .bodies t m l k)
 
 -- ---- the history
 
@@ -227,30 +238,58 @@ from-snoc a (suc n) =
     let e : suc a + n ≡ a + suc n = omega arith in
     ap (λ l. a ∷ l) (from-snoc (suc a) n ∙ ap (λ x. from (suc a) n ++ (x ∷ [])) e)
 
-upTo-from : (n : ℕ) → upTo n ≡ from 0 n
+pub upTo-from : (n : ℕ) → upTo n ≡ from 0 n
 upTo-from zero = refl
 upTo-from (suc n) = let e : n ≡ 0 + n = omega arith in ap (λ l. l ++ (n ∷ [])) (upTo-from n) ∙ ap (λ x. from 0 n ++ (x ∷ [])) e ∙ sym (from-snoc 0 n)
 
 -- p may stand before o in a transaction
-abbrev mayPrecede : Operation → Operation → Bool
+abbrev pub mayPrecede : Operation → Operation → Bool
 mayPrecede p o = implies (eqb (p .key) (o .key)) (isRead p && isWrite o)
 
-once-from : (f : ℕ → Operation) (earlier : List Operation) (a n : ℕ)
-    → All (λ p. (j : ℕ) → a ≤ j → j < a + n → T (mayPrecede p (f j))) earlier
-    → ((i j : ℕ) → a ≤ i → i < j → j < a + n → T (mayPrecede (f i) (f j)))
-    → T (keysOnce earlier (map f (from a n)))
-unfolding keysOnce
-once-from f earlier a zero g p = tt
-once-from f earlier a (suc n) g p =
-    and-in (all (λ q. mayPrecede q (f a)) earlier) (keysOnce (f a ∷ earlier) (map f (from (suc a) n)))
-    (all-in (λ q. mayPrecede q (f a)) earlier
-    (All-imp (λ q. (j : ℕ) → a ≤ j → j < a + suc n → T (mayPrecede q (f j))) (λ q. T (mayPrecede q (f a))) (λ q r. r a (omega arith) (omega arith)) earlier g))
-    (once-from f (f a ∷ earlier) (suc a) n (
-      (λ j l k. p a j (omega arith) (omega arith) (omega arith)),
-      All-imp (λ q. (j : ℕ) → a ≤ j → j < a + suc n → T (mayPrecede q (f j))) (λ q. (j : ℕ) → suc a ≤ j → j < suc a + n → T (mayPrecede q (f j)))
-          (λ q r j l k. r j (omega arith) (omega arith)) earlier g,
-    )
-    (λ i j l k q. p i j (omega arith) k (omega arith)))
+-- operations kept by their place
+module _ (p : List Operation → Operation → Bool) (f : ℕ → Operation) where
+  abbrev pub kept : ℕ → Bool
+  kept j = p (behind f j) (f j)
+
+  abbrev pub keptFrom : ℕ → ℕ → List Operation
+  keptFrom a n = keepAfter p (behind f a) (map f (from a n))
+
+  every-from : (P : Operation → Type 0) (a n : ℕ) → ((j : ℕ) → a ≤ j → j < a + n → T (kept j) → P (f j)) → All P (keptFrom a n)
+  every-from P a zero g = tt
+  every-from P a (suc n) g = go (kept a) (g a (omega arith) (omega arith)) (every-from P (suc a) n (λ j l k. g j (omega arith) (omega arith)))
+    where
+      go : (c : Bool) → (T c → P (f a)) → All P (keptFrom (suc a) n) → All P (cond c (f a ∷ keptFrom (suc a) n) (keptFrom (suc a) n))
+      go true x r = (x tt, r)
+      go false x r = r
+
+  once-from : (earlier : List Operation) (a n : ℕ)
+      → All (λ q. (j : ℕ) → a ≤ j → j < a + n → T (kept j) → T (mayPrecede q (f j))) earlier
+      → ((i j : ℕ) → a ≤ i → i < j → j < a + n → T (kept i) → T (kept j) → T (mayPrecede (f i) (f j)))
+      → T (keysOnce earlier (keptFrom a n))
+  unfolding keysOnce
+  once-from earlier a zero g r = tt
+  once-from earlier a (suc n) g r =
+      go (kept a) (λ t. t)
+      (λ t. once-from (f a ∷ earlier) (suc a) n ((λ j l k. r a j (omega arith) (omega arith) (omega arith) t), still) rest)
+      (once-from earlier (suc a) n still rest)
+    where
+      still : All (λ q. (j : ℕ) → suc a ≤ j → j < suc a + n → T (kept j) → T (mayPrecede q (f j))) earlier
+      still =
+          All-imp (λ q. (j : ℕ) → a ≤ j → j < a + suc n → T (kept j) → T (mayPrecede q (f j)))
+          (λ q. (j : ℕ) → suc a ≤ j → j < suc a + n → T (kept j) → T (mayPrecede q (f j))) (λ q r j l k. r j (omega arith) (omega arith)) earlier g
+
+      rest : (i j : ℕ) → suc a ≤ i → i < j → j < suc a + n → T (kept i) → T (kept j) → T (mayPrecede (f i) (f j))
+      rest i j l k q = r i j (omega arith) k (omega arith)
+
+      go : (c : Bool) → (T c → T (kept a)) → (T (kept a) → T (keysOnce (f a ∷ earlier) (keptFrom (suc a) n))) → T (keysOnce earlier (keptFrom (suc a) n))
+          → T (keysOnce earlier (cond c (f a ∷ keptFrom (suc a) n) (keptFrom (suc a) n)))
+      go true x y z =
+          and-in (all (λ q. mayPrecede q (f a)) earlier) (keysOnce (f a ∷ earlier) (keptFrom (suc a) n))
+          (all-in (λ q. mayPrecede q (f a)) earlier
+          (All-imp (λ q. (j : ℕ) → a ≤ j → j < a + suc n → T (kept j) → T (mayPrecede q (f j))) (λ q. T (mayPrecede q (f a)))
+          (λ q r. r a (omega arith) (omega arith) (x tt)) earlier g))
+          (y (x tt))
+      go false x y z = z
 
 -- every element of a list of numbers below 256
 abbrev pub Bytes : List ℕ → Type 0
@@ -265,34 +304,97 @@ kinds zero l t = absurd t
 kinds (suc zero) l t = tt
 kinds (suc (suc x)) l t = absurd (omega arith)
 
-module _ (b : List ℕ) (ok : Loaded b) where
-  precede : (t : ℕ) → t < transactionsIn b → (i j : ℕ) → i < j → j < countAt b t → T (mayPrecede (operationOf b t i) (operationOf b t j))
-  unfolding seen
-  precede t l i j k m =
-      implies-in (eqb (keyAt b (startAt b t + i)) (keyAt b (startAt b t + j))) (rd i && eqb (kind j) 1)
+yes-way : (c x y : Bool) → T (not (cond c x y)) → T c → T (not x)
+yes-way true x y t u = t
+yes-way false x y t u = absurd u
+
+no-way : (c x y : Bool) → T (not (cond c x y)) → T (not c) → T (not y)
+no-way true x y t u = absurd u
+no-way false x y t u = t
+
+-- operation m of a transaction is a read-back where its body is one
+pub back-is : (b : List ℕ) (t m : ℕ) → isReadBack (behind (operationOf b t) m) (operationOf b t m) ≡ backAt b (startAt b t) m
+unfolding isReadBack backAt seen
+back-is b t m =
+    ap (λ x. isRead (operationOf b t m) && x) (any-behind (λ p. isWrite p && eqb (p .key) (operationOf b t m .key)) (operationOf b t) m)
+
+module _ (b : List ℕ) (ok : Loaded b) (t : ℕ) (l : t < transactionsIn b) where
+  abbrev first : ℕ
+  first = startAt b t
+
+  -- of two operations on a key that are no read-backs the first is a read and the second a write
+  precede : (i j : ℕ) → i < j → j < countAt b t → T (not (backAt b first j)) → T (mayPrecede (operationOf b t i) (operationOf b t j))
+  unfolding seen again backAt
+  precede i j k m out =
+      implies-in (eqb (key i) (key j)) (rd i && eqb (kind j) 1)
       (λ same.
-      let hit : (x : ℕ) → T (eqb (kind i) x) → T (seen b (startAt b t) j x (keyAt b (startAt b t + j))) =
-      λ x e. any-upTo-in (λ p. eqb (kind p) x && eqb (keyAt b (startAt b t + p)) (keyAt b (startAt b t + j))) j i k (and-in (eqb (kind i) x) (eqb (keyAt b (startAt b t + i)) (keyAt b (startAt b t + j))) e same) in
+      let hit : (x : ℕ) → T (eqb (kind i) x) → T (seen b first j x (key j)) =
+      λ x e. any-upTo-in (λ p. eqb (kind p) x && eqb (key p) (key j)) j i k (and-in (eqb (kind i) x) (eqb (key i) (key j)) e same) in
       let gi = body-good b ok t i l (omega arith) in
       let gj = body-good b ok t j l m in
-      -- j is no read: an earlier read would be a second one, an earlier write would be a write before it
+      let once = no-way (backAt b first j) (seenBack b first j (key j)) (seen b first j (kind j) (key j)) (gj .once) out in
+      -- j is no read: an earlier read would be a second one, an earlier write would make it a read-back
       let wj : T (eqb (kind j) 1) = kinds (kind j) (gj .kind) (not-intro (rd j) (λ r.
-      ⊎-elim (λ ri. clash (seen b (startAt b t) j (kind j) (keyAt b (startAt b t + j))) (hit (kind j) (eq-eqb (eqb→eq (kind i) 0 ri ∙ sym (eqb→eq (kind j) 0 r)))) (gj .once))
-      (λ ri. clash (seen b (startAt b t) j 1 (keyAt b (startAt b t + j))) (hit 1 (kinds (kind i) (gi .kind) ri)) (gj .order r))
+      ⊎-elim (λ ri. clash (seen b first j (kind j) (key j)) (hit (kind j) (eq-eqb (eqb→eq (kind i) 0 ri ∙ sym (eqb→eq (kind j) 0 r)))) once)
+      (λ ri. clash (backAt b first j) (and-in (rd j) (seen b first j 1 (key j)) r (hit 1 (kinds (kind i) (gi .kind) ri))) out)
       (decide (rd i)))) in
       and-in (rd i) (eqb (kind j) 1)
       (⊎-elim (λ ri. ri)
-      (λ ri. absurd (clash (seen b (startAt b t) j (kind j) (keyAt b (startAt b t + j))) (hit (kind j) (eq-eqb (eqb→eq (kind i) 1 (kinds (kind i) (gi .kind) ri) ∙ sym (eqb→eq (kind j) 1 wj)))) (gj .once)))
+      (λ ri. absurd (clash (seen b first j (kind j) (key j)) (hit (kind j) (eq-eqb (eqb→eq (kind i) 1 (kinds (kind i) (gi .kind) ri) ∙ sym (eqb→eq (kind j) 1 wj)))) once))
       (decide (rd i)))
       wj)
     where
       kind : ℕ → ℕ
-      kind x = kindAt b (startAt b t + x)
+      kind x = kindAt b (first + x)
+
+      key : ℕ → ℕ
+      key x = keyAt b (first + x)
 
       rd : ℕ → Bool
       rd x = eqb (kind x) 0
 
-count-upto : (b : List ℕ) (n : ℕ) → operationCount (map (transactionAt b) (upTo n)) ≡ countsBefore b n
+  -- two read-backs are of different keys
+  backs-differ : (i j : ℕ) → i < j → j < countAt b t → T (backAt b first i) → T (backAt b first j) → T (mayPrecede (operationOf b t i) (operationOf b t j))
+  unfolding again seenBack
+  backs-differ i j k m bi bj =
+      let same = eqb (keyAt b (first + i)) (keyAt b (first + j)) in
+      implies-in same (isRead (operationOf b t i) && isWrite (operationOf b t j))
+      (λ e.
+      absurd
+      (clash (seenBack b first j (keyAt b (first + j)))
+      (any-upTo-in (λ p. backAt b first p && eqb (keyAt b (first + p)) (keyAt b (first + j))) j i k (and-in (backAt b first i) same bi e))
+      (yes-way (backAt b first j) (seenBack b first j (keyAt b (first + j))) (seen b first j (kindAt b (first + j)) (keyAt b (first + j)))
+      (body-good b ok t j l m .once) bj)))
+
+  good-keys : T (goodKeys t (map (operationOf b t) (upTo (countAt b t))))
+  unfolding goodKeys outward readBacks
+  good-keys =
+      subst (λ is. T (goodKeys t (map f is))) (sym (upTo-from n))
+      (and-in (keysOnce [] (keptFrom out f 0 n)) (keysOnce [] backs && all (λ o. eqb (o .argument) t) backs)
+      (once-from out f [] 0 n tt (λ i j x y z u v. precede i j y (omega arith) (eq-T (ap not (back-is b t j)) v)))
+      (and-in (keysOnce [] backs) (all (λ o. eqb (o .argument) t) backs)
+      (once-from isReadBack f [] 0 n tt (λ i j x y z u v. backs-differ i j y (omega arith) (eq-T (back-is b t i) u) (eq-T (back-is b t j) v)))
+      (all-in (λ o. eqb (o .argument) t) backs
+      (every-from isReadBack f (λ o. T (eqb (o .argument) t)) 0 n
+      (λ j x y u. eq-eqb (body-good b ok t j l (omega arith) .own (eq-T (back-is b t j) u)))))))
+    where
+      n : ℕ
+      n = countAt b t
+
+      f : ℕ → Operation
+      f = operationOf b t
+
+      out : List Operation → Operation → Bool
+      out earlier o = not (isReadBack earlier o)
+
+      backs : List Operation
+      backs = keptFrom isReadBack f 0 n
+
+-- in the history of a log with the number 0, the keys of each transaction are good
+pub keys-good : (b : List ℕ) → loadNumber b ≡ 0 → (t : ℕ) → t < transactionsIn b → T (goodKeys t (operationsOf (historyOf b) t))
+keys-good b e t l = subst (λ os. T (goodKeys t os)) (sym (operations-at b t l)) (good-keys b (loaded b e) t l)
+
+pub count-upto : (b : List ℕ) (n : ℕ) → operationCount (map (transactionAt b) (upTo n)) ≡ countsBefore b n
 unfolding transactionAt countsBefore
 count-upto b zero = refl
 count-upto b (suc n) =
@@ -300,9 +402,9 @@ count-upto b (suc n) =
     ∙ fold-snoc (λ m (t : Transaction). m + length (t .operations)) 0 (map (transactionAt b) (upTo n)) (transactionAt b n)
     ∙ omega (arith, count-upto b n, length-upTo (operationOf b n) (countAt b n))
 
-good-operation : (b : List ℕ) → Bytes b → (n first m : ℕ) → n ≡ transactionsIn b → GoodBody b first m → T (goodOperation n (operationAt b (first + m)))
+good-operation : (b : List ℕ) → Bytes b → (n t first m : ℕ) → n ≡ transactionsIn b → GoodBody b t first m → T (goodOperation n (operationAt b (first + m)))
 unfolding goodOperation
-good-operation b small n first m e g =
+good-operation b small n t first m e g =
     let i = first + m in
     let a = argumentAt b i in
     let named = implies (eqb (kindAt b i) 0) (ltb a n || eqb a start) in
@@ -313,28 +415,28 @@ good-operation b small n first m e g =
 
 -- the number 0 gives a well-formed history
 pub well-formed : (b : List ℕ) → Bytes b → loadNumber b ≡ 0 → T (wellFormed (historyOf b))
-unfolding wellFormed goodTransaction transactionAt historyOf
+unfolding wellFormed goodTransaction historyOf
 well-formed b small e =
     let ok = loaded b e in
     let h = historyOf b in
     let n = size h in
     let sz : n ≡ transactionsIn b = history-size b in
     let cnt : operationCount h ≡ countsBefore b (transactionsIn b) = count-upto b (transactionsIn b) in
-    and-in (leb n 32) (leb (operationCount h) 256 && all (goodTransaction n) h) (le→leb n 32 (omega (arith, ok .few)))
-    (and-in (leb (operationCount h) 256) (all (goodTransaction n) h) (le→leb (operationCount h) 256 (omega (arith, ok .many, ok .sum)))
-    (all-in (goodTransaction n) h
-    (All-map-in (λ x. T (goodTransaction n x)) (transactionAt b) (upTo (transactionsIn b))
-    (upTo-in (λ t. T (goodTransaction n (transactionAt b t))) (transactionsIn b)
-    (λ t l.
-    let os = map (operationOf b t) (upTo (countAt b t)) in
-    and-in (ltb (cabinetAt b t) 16) (all (goodOperation n) os && keysOnce [] os) (lt→ltb (cabinetAt b t) 16 (omega (arith, ok .cabinets t l)))
-    (and-in (all (goodOperation n) os) (keysOnce [] os)
-    (all-in (goodOperation n) os
+    and-in (leb n 32) (leb (operationCount h) 256 && all (goodTransaction h) (upTo n)) (le→leb n 32 (omega (arith, ok .few)))
+    (and-in (leb (operationCount h) 256) (all (goodTransaction h) (upTo n)) (le→leb (operationCount h) 256 (omega (arith, ok .many, ok .sum)))
+    (all-upTo-in (goodTransaction h) n
+    (λ t k.
+    let l : t < transactionsIn b = omega arith in
+    let os = operationsOf h t in
+    let is = sym (operations-at b t l) in
+    and-in (ltb (cabinetOf h t) 16) (all (goodOperation n) os && goodKeys t os) (lt→ltb (cabinetOf h t) 16 (omega (arith, cabinet-at b t l, ok .cabinets t l)))
+    (and-in (all (goodOperation n) os) (goodKeys t os)
+    (subst (λ os. T (all (goodOperation n) os)) is
+    (all-in (goodOperation n) (map (operationOf b t) (upTo (countAt b t)))
     (All-map-in (λ x. T (goodOperation n x)) (operationOf b t) (upTo (countAt b t))
     (upTo-in (λ m. T (goodOperation n (operationOf b t m))) (countAt b t)
-    (λ m k. good-operation b small n (startAt b t) m sz (body-good b ok t m l k)))))
-    (subst (λ l. T (keysOnce [] (map (operationOf b t) l))) (sym (upTo-from (countAt b t)))
-    (once-from (operationOf b t) [] 0 (countAt b t) tt (λ i j x y z. precede b ok t l i j y (omega arith))))))))))
+    (λ m k. good-operation b small n t (startAt b t) m sz (body-good b ok t m l k))))))
+    (keys-good b e t l)))))
 
 -- what the theorems on histories need of a loaded log: at most 32 transactions, and keys below 32
 pub loadable-log : (b : List ℕ) → loadNumber b ≡ 0 → Loadable (historyOf b)

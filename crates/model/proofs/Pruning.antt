@@ -8,7 +8,7 @@ use mathlib.Core.List.{List, [], _∷_, map}
 use lib.Dec.{T, eqb, ltb, eqb→eq, eqb-refl}
 use lib.ListN.{length}
 use Rattle.model.specs.Lists.{All, any, keep, each, upTo, place, bit}
-use Rattle.model.specs.History.{Operation, History, size, operationsOf, isRead, writes, isOrder, legal}
+use Rattle.model.specs.History.{Operation, History, size, outwardOf, isRead, writes, isOrder, legal}
 use Rattle.model.specs.Polygraph.{goodRead, edge, rows, Constraint, inEnds, only, ends, plainOf, plain, between, joined, isHead, tail, chained, constraints, Polygraph, has, withSide, reach, closedOff, pass, passes, unpruned, polygraph, Way, RespectsKnown, RespectsSide, Respects}
 use Rattle.model.specs.RowWords.{Aimed, Tidy, Within}
 use Rattle.model.proofs.Basics.{eq-T, cond-out, and-l, and-r, and-in, or-out, or-l, or-r, eqb-ne, All-every, All-each-in, All-map-in, All-keep-in, any-upTo-out}
@@ -216,11 +216,11 @@ module _ (h : History) (ok : Loadable h) where
   aimed-plain : All (Aimed (size h)) (plain h)
   unfolding plain plainOf
   aimed-plain =
-      All-each-in (Aimed (size h)) (λ t. each (plainOf h t) (operationsOf h t)) (upTo (size h))
-      (All-every (λ t. All (Aimed (size h)) (each (plainOf h t) (operationsOf h t)))
+      All-each-in (Aimed (size h)) (λ t. each (plainOf h t) (outwardOf h t)) (upTo (size h))
+      (All-every (λ t. All (Aimed (size h)) (each (plainOf h t) (outwardOf h t)))
       (λ t.
-      All-each-in (Aimed (size h)) (plainOf h t) (operationsOf h t)
-      (All-every (λ r. All (Aimed (size h)) (plainOf h t r)) (λ r. go t r (isRead r && goodRead h (r .key) t (r .argument)) (λ b. b)) (operationsOf h t)))
+      All-each-in (Aimed (size h)) (plainOf h t) (outwardOf h t)
+      (All-every (λ r. All (Aimed (size h)) (plainOf h t r)) (λ r. go t r (isRead r && goodRead h (r .key) t (r .argument)) (λ b. b)) (outwardOf h t)))
       (upTo (size h)))
     where
       at : ℕ → Operation → ℕ → Constraint

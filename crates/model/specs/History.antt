@@ -1,10 +1,10 @@
--- Histories, replay and legal orders: document 01, 'The log' (its rules on operations) and 'Replay and legality'. Assumes nothing.
+-- Histories, replay and legal orders: document 01, 'The log' (its rules on operations) and 'Replay and legality', with card 1's read-backs. Assumes nothing.
 use Prim.Native.Nat.{ℕ, _+_}
-use mathlib.Core.Bool.{Bool, true, cond, _&&_, _||_}
-use mathlib.Core.List.{List, [], _∷_}
+use mathlib.Core.Bool.{Bool, true, not, cond, _&&_, _||_}
+use mathlib.Core.List.{List, [], _∷_, map}
 use lib.Dec.{eqb, ltb, leb}
 use lib.ListN.{length, getD, set, replicate}
-use Rattle.model.specs.Lists.{implies, all, any, keep, fold, upTo, count, place, upToElement}
+use Rattle.model.specs.Lists.{implies, all, any, keep, keepAfter, allAfter, fold, upTo, count, place, upToElement}
 
 -- An operation: kind 0 is a read and 1 a write. A write's argument is its value; a read's is the number of the transaction whose write it saw,
 -- or 65535 for the starting value.
@@ -42,16 +42,33 @@ operationsOf h t = (getD h t noTransaction) .operations
 abbrev pub isRead : Operation → Bool
 isRead o = eqb (o .kind) 0
 
--- The reads that look at what earlier transactions left: all of them. Readers, known edges, constraints and legality share this test.
-abbrev pub outward : Operation → Bool
-outward o = isRead o
-
 abbrev pub isWrite : Operation → Bool
 isWrite o = eqb (o .kind) 1
 
+-- A read-back: a read of a key that its transaction has written before. It is a question of the read's place, not of what it says: `earlier` is
+-- what stands before it in its transaction.
+unfoldable pub isReadBack : List Operation → Operation → Bool
+isReadBack earlier o = isRead o && any (λ p. isWrite p && eqb (p .key) (o .key)) earlier
+
+-- The operations of a transaction without its read-backs: the reads among them look at what earlier transactions left. Readers, known edges,
+-- constraints, the reads of a replay and legality share this list, so that a read-back adds nothing to any of them.
+unfoldable pub outward : List Operation → List Operation
+outward os = keepAfter (λ earlier o. not (isReadBack earlier o)) [] os
+
+-- the read-backs of a transaction: the write before each explains it
+unfoldable pub readBacks : List Operation → List Operation
+readBacks os = keepAfter isReadBack [] os
+
+abbrev pub outwardOf : History → ℕ → List Operation
+outwardOf h t = outward (operationsOf h t)
+
+-- the same history, each transaction without its read-backs
+unfoldable pub withoutReadBacks : History → History
+withoutReadBacks h = map (λ (x : Transaction). record { cabinet = x .cabinet; operations = outward (x .operations) }) h
+
 -- ---- what Load lets through
 
--- In one transaction a key has at most one read and one write, the read first.
+-- among these operations a key has at most one read and one write, the read first
 unfoldable pub keysOnce : List Operation → List Operation → Bool
 keysOnce earlier [] = true
 keysOnce earlier (o ∷ os) = all (λ p. implies (eqb (p .key) (o .key)) (isRead p && isWrite o)) earlier && keysOnce (o ∷ earlier) os
@@ -61,15 +78,20 @@ unfoldable pub goodOperation : ℕ → Operation → Bool
 goodOperation n o =
     ltb (o .kind) 2 && (ltb (o .key) 32 && (ltb (o .argument) 65536 && implies (isRead o) (ltb (o .argument) n || eqb (o .argument) start)))
 
-unfoldable pub goodTransaction : ℕ → Transaction → Bool
-goodTransaction n t = ltb (t .cabinet) 16 && (all (goodOperation n) (t .operations) && keysOnce [] (t .operations))
+-- In one transaction a key has at most one read that looks at earlier transactions, then one write, then one read-back, which names the
+-- transaction itself.
+unfoldable pub goodKeys : ℕ → List Operation → Bool
+goodKeys t os = keysOnce [] (outward os) && (keysOnce [] (readBacks os) && all (λ o. eqb (o .argument) t) (readBacks os))
+
+unfoldable pub goodTransaction : History → ℕ → Bool
+goodTransaction h t = ltb (cabinetOf h t) 16 && (all (goodOperation (size h)) (operationsOf h t) && goodKeys t (operationsOf h t))
 
 -- how many operations there are
 abbrev pub operationCount : History → ℕ
 operationCount h = fold (λ n (t : Transaction). n + length (t .operations)) 0 h
 
 unfoldable pub wellFormed : History → Bool
-wellFormed h = leb (size h) 32 && (leb (operationCount h) 256 && all (goodTransaction (size h)) h)
+wellFormed h = leb (size h) 32 && (leb (operationCount h) 256 && all (goodTransaction h) (upTo (size h)))
 
 -- ---- reads, writes, replay
 
@@ -77,9 +99,9 @@ wellFormed h = leb (size h) 32 && (leb (operationCount h) 256 && all (goodTransa
 unfoldable pub writes : History → ℕ → ℕ → Bool
 writes h t k = any (λ o. isWrite o && eqb (o .key) k) (operationsOf h t)
 
--- transaction t has a read of key k that names u (or the starting value, where u is 65535)
+-- transaction t has a read of key k that looks at earlier transactions and names u (or the starting value, where u is 65535)
 unfoldable pub reads : History → ℕ → ℕ → ℕ → Bool
-reads h t k u = any (λ o. outward o && (eqb (o .key) k && eqb (o .argument) u)) (operationsOf h t)
+reads h t k u = any (λ o. isRead o && (eqb (o .key) k && eqb (o .argument) u)) (outwardOf h t)
 
 -- the last writer of key k in a run of transactions, or d where there is none
 unfoldable pub lastWriter : History → ℕ → ℕ → List ℕ → ℕ
@@ -87,12 +109,24 @@ lastWriter h k d [] = d
 lastWriter h k d (x ∷ xs) = lastWriter h k (cond (writes h x k) x d) xs
 
 -- A read by t is explained when the last earlier writer of its key is the transaction it names, or, for 65535, when there is no earlier writer.
--- What stands before t does not hold t itself: a transaction never explains its own read.
+-- What stands before t does not hold t itself: a transaction never explains a read of its own that looks at earlier ones.
 unfoldable pub explained : History → List ℕ → ℕ → Operation → Bool
 explained h o t r = eqb (lastWriter h (r .key) start (upToElement t o)) (r .argument)
 
+-- Every read that looks at earlier transactions is explained. A read-back is explained by the write before it, in every order: Load takes only those that
+-- name their own transaction. So in a loaded log this is `everyReadNamesWhatItSees` (theorem `explained-by-what-it-sees`).
 unfoldable pub everyReadExplained : History → List ℕ → Bool
-everyReadExplained h o = all (λ t. all (λ r. implies (outward r) (explained h o t r)) (operationsOf h t)) (upTo (size h))
+everyReadExplained h o = all (λ t. all (λ r. implies (isRead r) (explained h o t r)) (outwardOf h t)) (upTo (size h))
+
+-- What a read by t sees in an order, by its place: its own transaction's write, where a write of the key stands before it in t; else the write of the last
+-- earlier writer of the key, or the start.
+unfoldable pub sees : History → List ℕ → ℕ → List Operation → Operation → ℕ
+sees h o t earlier r = cond (isReadBack earlier r) t (lastWriter h (r .key) start (upToElement t o))
+
+-- all reads, read-backs too
+unfoldable pub everyReadNamesWhatItSees : History → List ℕ → Bool
+everyReadNamesWhatItSees h o =
+    all (λ t. allAfter (λ earlier r. implies (isRead r) (eqb (sees h o t earlier r) (r .argument))) [] (operationsOf h t)) (upTo (size h))
 
 -- an order holds every number below T once and nothing else
 unfoldable pub isOrder : ℕ → List ℕ → Bool
@@ -121,8 +155,8 @@ legal h o = isOrder (size h) o && (keepsCabinets h o && everyReadExplained h o)
 unfoldable pub stored : History → List ℕ → ℕ → List ℕ
 stored h table t = fold (λ tb o. set tb (o .key) (o .argument)) table (keep isWrite (operationsOf h t))
 
--- Replay runs the transactions one after another: the reads look at the table as earlier transactions left it, then the writes are stored. Reads
--- change nothing: `explained` says what they see.
+-- Replay runs the transactions one after another: the reads look at the table as earlier transactions left it (a read-back at the write before it), then
+-- the writes are stored. Reads change nothing: `sees` says whose write they see.
 unfoldable pub replay : History → List ℕ → List ℕ → List ℕ
 replay h table o = fold (stored h) table o
 

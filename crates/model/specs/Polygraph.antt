@@ -1,4 +1,4 @@
--- Known edges, the three encodings, pruning and selections: document 01, 'Known edges' to 'Pruning'. Assumes nothing.
+-- Known edges, the three encodings, pruning and selections: document 01, 'Known edges' to 'Pruning', with card 1's read-backs left out. Assumes nothing.
 use Prim.Native.Nat.{ℕ, zero, suc, _<_}
 use mathlib.Core.Path.{_≡_}
 use mathlib.Core.Logic.{_⊎_}
@@ -10,9 +10,9 @@ use lib.ListN.{length, getD}
 -- target. Each constraint is a record of these four fields, the struct of src/lib.rt.
 pub use Rattle.model.specs.declared.Constraint.{Constraint}
 use Rattle.model.specs.Lists.{All, all, any, place, keep, firstOr, fold, each, upTo, bit, wordOf}
-use Rattle.model.specs.History.{History, Operation, start, size, cabinetOf, operationsOf, outward, mustPrecede, writes, reads}
+use Rattle.model.specs.History.{History, Operation, start, size, cabinetOf, outwardOf, isRead, mustPrecede, writes, reads}
 
--- a good read: a read by t that names u, where u writes the key and u is not t. It gives the known edge u → t.
+-- a good read: a read by t that looks at earlier transactions and names u, where u writes the key and u is not t. It gives the known edge u → t.
 unfoldable pub goodRead : History → ℕ → ℕ → ℕ → Bool
 goodRead h k t u = reads h t k u && (writes h u k && not (eqb u t))
 
@@ -22,13 +22,13 @@ nextOfCabinet h u v =
     mustPrecede h u v
     && all (λ w. not (ltb u w && (ltb w v && eqb (cabinetOf h u) (cabinetOf h w)))) (upTo (size h))
 
--- A read by t of the starting value gives t → v for every other writer v of the key.
+-- A read by t of the starting value that looks at earlier transactions gives t → v for every other writer v of the key.
 unfoldable pub startRead : History → ℕ → ℕ → Bool
 startRead h t v = any (λ k. reads h t k start && (writes h v k && not (eqb v t))) (upTo 32)
 
--- A read that names its own transaction, or one that doesn't write the key, gives t → t.
+-- A read that looks at earlier transactions and names its own, or one that doesn't write the key, gives t → t.
 unfoldable pub badRead : History → ℕ → Bool
-badRead h t = any (λ r. outward r && (not (eqb (r .argument) start) && not (goodRead h (r .key) t (r .argument)))) (operationsOf h t)
+badRead h t = any (λ r. isRead r && (not (eqb (r .argument) start) && not (goodRead h (r .key) t (r .argument)))) (outwardOf h t)
 
 -- the successor of a write u on key k: the lowest-numbered transaction other than u that writes the key and has a good read of it from u; T
 -- where there is none
@@ -66,13 +66,13 @@ only t = wordOf 32 (λ s. eqb s t)
 -- body order, then v; every listing is ascending.
 unfoldable pub plainOf : History → ℕ → Operation → List Constraint
 plainOf h t r =
-    cond (outward r && goodRead h (r .key) t (r .argument))
+    cond (isRead r && goodRead h (r .key) t (r .argument))
     (map (λ v. record { fromA = only t; toA = v; fromB = only v; toB = r .argument })
     (keep (λ v. writes h v (r .key) && (not (eqb v (r .argument)) && not (eqb v t))) (upTo (size h))))
     []
 
 unfoldable pub plain : History → List Constraint
-plain h = each (λ t. each (plainOf h t) (operationsOf h t)) (upTo (size h))
+plain h = each (λ t. each (plainOf h t) (outwardOf h t)) (upTo (size h))
 
 -- for each two i < j of those that the test passes, each standing for a run of writes that ends in `last`:
 -- A is Ends(last i, j) to j, B is Ends(last j, i) to i. Listed by i, then j.

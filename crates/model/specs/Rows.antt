@@ -1,16 +1,16 @@
--- Document 01's histories A to J and the program's example, as logs, with a log for each number of Load: rows of one list that one theorem
+-- Document 01's histories A to J, histories with read-backs and the program's example, as logs, with a log for each number of Load: rows of one list that one theorem
 -- covers, by computation. Assumes nothing.
-use Prim.Native.Nat.{ℕ}
+use Prim.Native.Nat.{ℕ, _-_}
 use mathlib.Core.Bool.{Bool, true, false, _&&_}
-use mathlib.Core.List.{List, [], _∷_, map}
+use mathlib.Core.List.{List, [], _∷_, _++_, map}
 use mathlib.Core.Option.{Option, none, some}
 use lib.Dec.{T, eqb}
 use lib.ListN.{length, getD, replicate}
 use Rattle.model.specs.Lists.{all, bit}
-use Rattle.model.specs.History.{Operation, Transaction, History, start, writes, reads, lastWriter, explained, everyReadExplained, isOrder, keepsCabinets, legal, stored, replay, finalTable}
+use Rattle.model.specs.History.{Operation, Transaction, History, start, isReadBack, outward, writes, reads, lastWriter, explained, everyReadExplained, isOrder, keepsCabinets, legal, stored, replay, finalTable}
 use Rattle.model.specs.Polygraph.{goodRead, nextOfCabinet, startRead, badRead, successor, chainEdge, edge, rows, Constraint, inEnds, plainOf, plain, between, joined, isSuccessor, isHead, tailWithin, chained, constraints, withSide, through, reach, closedOff, pass, passes, polygraph, has}
 use Rattle.model.specs.Lent.{encodedList}
-use Rattle.model.specs.Log.{pairAt, countsBefore, firstNumber, entryNumber, seen, bodyNumber, bodiesNumber, loadNumber, transactionAt, historyOf}
+use Rattle.model.specs.Log.{pairAt, countsBefore, firstNumber, entryNumber, seen, backAt, seenBack, again, bodyNumber, bodiesNumber, loadNumber, transactionAt, historyOf}
 use Rattle.model.specs.Search.{arrangements, firstLegal}
 
 -- a read of a key from a transaction, or from start
@@ -36,6 +36,8 @@ pub data Claim : Type 0 where
   has-edge : (encoding u v : ℕ) → Claim
   pruned-has-edge : (encoding u v : ℕ) → Claim
   leaves : (encoding pruning : ℕ) (lent list : List (List ℕ)) → Claim
+  edges-are : (encoding : ℕ) (words : List ℕ) → Claim
+  judged-as : (other : List ℕ) → Claim
 
 abbrev same : List ℕ → List ℕ → Bool
 same [] [] = true
@@ -78,6 +80,15 @@ fields c = c .fromA ∷ c .toA ∷ c .fromB ∷ c .toB ∷ []
 abbrev constraintOf : List ℕ → Constraint
 constraintOf l = record { fromA = getD l 0 0; toA = getD l 1 0; fromB = getD l 2 0; toB = getD l 3 0 }
 
+-- the same known edges and constraints in a setting
+abbrev samePolygraph : History → History → ℕ → ℕ → Bool
+samePolygraph g h e p =
+    same (polygraph g e p .known) (polygraph h e p .known) && sameLists (map fields (polygraph g e p .choices)) (map fields (polygraph h e p .choices))
+
+abbrev sameOrder : Option (List ℕ) → Option (List ℕ) → Bool
+sameOrder none p = isNone p
+sameOrder (some o) p = isOrderFound p o
+
 -- b the log, h its history
 pub holds : List ℕ → History → Claim → Bool
 holds b h (number n) = eqb (loadNumber b) n
@@ -92,6 +103,12 @@ holds b h (joined-are cs) = sameLists (map fields (joined h)) cs
 holds b h (has-edge e u v) = edge h e u v
 holds b h (pruned-has-edge e u v) = has (polygraph h e 1 .known) u v
 holds b h (leaves e p lent list) = sameLists (map fields (encodedList h e p (map constraintOf lent))) list
+-- the first words; those behind them are 0
+holds b h (edges-are e ws) = same (rows h e) (ws ++ replicate (32 - length ws) 0)
+-- the same first legal order, and the same polygraph in all six settings, as another log
+holds b h (judged-as c) =
+    sameOrder (firstLegal h) (firstLegal (historyOf c))
+    && all (λ e. samePolygraph h (historyOf c) e 0 && samePolygraph h (historyOf c) e 1) (0 ∷ 1 ∷ 2 ∷ [])
 
 -- a log and what is said of it
 pub record Row : Type 0 where
@@ -100,6 +117,14 @@ pub record Row : Type 0 where
 
 abbrev row : List ℕ → List Claim → Row
 row b cs = record { log = b; claims = cs }
+
+-- The logs of E and F, which others are held against.
+abbrev logE : List ℕ
+logE =
+    0x04 ∷ 0x00 ∷ 0x06 ∷ 0x00 ∷ 0x00 ∷ 0x01 ∷ 0x00 ∷ 0x00 ∷ 0x01 ∷ 0x02 ∷ 0x01 ∷ 0x00 ∷ 0x02 ∷ 0x01 ∷ 0x03 ∷ 0x00 ∷ 0x03 ∷ 0x02 ∷ 0x04 ∷ 0x00 ∷ 0x01 ∷ 0x00 ∷ 0x07 ∷ 0x00 ∷ 0x00 ∷ 0x00 ∷ 0x00 ∷ 0x00 ∷ 0x01 ∷ 0x00 ∷ 0x07 ∷ 0x00 ∷ 0x01 ∷ 0x00 ∷ 0x07 ∷ 0x00 ∷ 0x00 ∷ 0x00 ∷ 0x02 ∷ 0x00 ∷ 0x01 ∷ 0x00 ∷ 0x07 ∷ 0x00 ∷ []
+
+abbrev logF : List ℕ
+logF = 0x01 ∷ 0x00 ∷ 0x02 ∷ 0x00 ∷ 0x00 ∷ 0x02 ∷ 0x00 ∷ 0x00 ∷ 0x00 ∷ 0x00 ∷ 0x00 ∷ 0x00 ∷ 0x01 ∷ 0x00 ∷ 0x07 ∷ 0x00 ∷ []
 
 -- k is key 0, m is key 1; a log's bytes stand as header, entries and bodies
 abbrev pub table : List Row
@@ -117,14 +142,14 @@ table =
     ∷ row (0x05 ∷ 0x00 ∷ 0x05 ∷ 0x00 ∷ 0x00 ∷ 0x01 ∷ 0x00 ∷ 0x00 ∷ 0x01 ∷ 0x01 ∷ 0x01 ∷ 0x00 ∷ 0x02 ∷ 0x01 ∷ 0x02 ∷ 0x00 ∷ 0x03 ∷ 0x01 ∷ 0x03 ∷ 0x00 ∷ 0x04 ∷ 0x01 ∷ 0x04 ∷ 0x00 ∷ 0x01 ∷ 0x00 ∷ 0x07 ∷ 0x00 ∷ 0x01 ∷ 0x00 ∷ 0x07 ∷ 0x00 ∷ 0x00 ∷ 0x00 ∷ 0x00 ∷ 0x00 ∷ 0x00 ∷ 0x00 ∷ 0x00 ∷ 0x00 ∷ 0x00 ∷ 0x00 ∷ 0x01 ∷ 0x00 ∷ [])
     (number 0 ∷ holding (sent 0 (write 0 7 ∷ []) ∷ sent 1 (write 0 7 ∷ []) ∷ sent 2 (read 0 0 ∷ []) ∷ sent 3 (read 0 0 ∷ []) ∷ sent 4 (read 0 1 ∷ []) ∷ []) ∷ order (0 ∷ 2 ∷ 3 ∷ 1 ∷ 4 ∷ []) ∷ counts 3 1 1 ∷ joined-are ((0b01100 ∷ 1 ∷ 0b10000 ∷ 0 ∷ []) ∷ []) ∷ [])
     -- E. 0 writes k; 1 reads it from 0 and writes it; 2 writes k; 3 reads it from 2 and writes it: order 0 1 2 3; constraints 4, 6, 1; joined and pruned 4
-    ∷ row (0x04 ∷ 0x00 ∷ 0x06 ∷ 0x00 ∷ 0x00 ∷ 0x01 ∷ 0x00 ∷ 0x00 ∷ 0x01 ∷ 0x02 ∷ 0x01 ∷ 0x00 ∷ 0x02 ∷ 0x01 ∷ 0x03 ∷ 0x00 ∷ 0x03 ∷ 0x02 ∷ 0x04 ∷ 0x00 ∷ 0x01 ∷ 0x00 ∷ 0x07 ∷ 0x00 ∷ 0x00 ∷ 0x00 ∷ 0x00 ∷ 0x00 ∷ 0x01 ∷ 0x00 ∷ 0x07 ∷ 0x00 ∷ 0x01 ∷ 0x00 ∷ 0x07 ∷ 0x00 ∷ 0x00 ∷ 0x00 ∷ 0x02 ∷ 0x00 ∷ 0x01 ∷ 0x00 ∷ 0x07 ∷ 0x00 ∷ [])
+    ∷ row logE
     (number 0 ∷ holding (sent 0 (write 0 7 ∷ []) ∷ sent 1 (read 0 0 ∷ write 0 7 ∷ []) ∷ sent 2 (write 0 7 ∷ []) ∷ sent 3 (read 0 2 ∷ write 0 7 ∷ []) ∷ []) ∷ order (0 ∷ 1 ∷ 2 ∷ 3 ∷ []) ∷ counts 4 6 1 ∷ left 1 1 4
     ∷ leaves 1 1 (replicate 7 (9 ∷ 9 ∷ 9 ∷ 9 ∷ []))
     ((2 ∷ 2 ∷ 8 ∷ 0 ∷ []) ∷ (2 ∷ 3 ∷ 8 ∷ 0 ∷ []) ∷ (2 ∷ 2 ∷ 8 ∷ 1 ∷ []) ∷ (2 ∷ 3 ∷ 8 ∷ 1 ∷ []) ∷ (0 ∷ 0 ∷ 0 ∷ 0 ∷ []) ∷ (0 ∷ 0 ∷ 0 ∷ 0 ∷ []) ∷ (9 ∷ 9 ∷ 9 ∷ 9 ∷ []) ∷ [])
     ∷ [])
     -- F. 0 reads k from 0, then writes k: no order, edge 0→0
-    ∷ row (0x01 ∷ 0x00 ∷ 0x02 ∷ 0x00 ∷ 0x00 ∷ 0x02 ∷ 0x00 ∷ 0x00 ∷ 0x00 ∷ 0x00 ∷ 0x00 ∷ 0x00 ∷ 0x01 ∷ 0x00 ∷ 0x07 ∷ 0x00 ∷ [])
-    (number 0 ∷ holding (sent 0 (read 0 0 ∷ write 0 7 ∷ []) ∷ []) ∷ no-order ∷ has-edge 0 0 0 ∷ [])
+    ∷ row logF
+    (number 0 ∷ holding (sent 0 (read 0 0 ∷ write 0 7 ∷ []) ∷ []) ∷ no-order ∷ has-edge 0 0 0 ∷ has-edge 1 0 0 ∷ has-edge 2 0 0 ∷ pruned-has-edge 0 0 0 ∷ pruned-has-edge 1 0 0 ∷ pruned-has-edge 2 0 0 ∷ [])
     -- G. 0 and 1 read k at start and write it: no order
     ∷ row (0x02 ∷ 0x00 ∷ 0x04 ∷ 0x00 ∷ 0x00 ∷ 0x02 ∷ 0x00 ∷ 0x00 ∷ 0x01 ∷ 0x02 ∷ 0x02 ∷ 0x00 ∷ 0x00 ∷ 0x00 ∷ 0xff ∷ 0xff ∷ 0x01 ∷ 0x00 ∷ 0x07 ∷ 0x00 ∷ 0x00 ∷ 0x00 ∷ 0xff ∷ 0xff ∷ 0x01 ∷ 0x00 ∷ 0x07 ∷ 0x00 ∷ [])
     (number 0 ∷ holding (sent 0 (read 0 start ∷ write 0 7 ∷ []) ∷ sent 1 (read 0 start ∷ write 0 7 ∷ []) ∷ []) ∷ no-order ∷ [])
@@ -143,6 +168,24 @@ table =
     -- J. 0 writes k; 1 reads k at start: order 1 0; the read gives 1→0
     ∷ row (0x02 ∷ 0x00 ∷ 0x02 ∷ 0x00 ∷ 0x00 ∷ 0x01 ∷ 0x00 ∷ 0x00 ∷ 0x01 ∷ 0x01 ∷ 0x01 ∷ 0x00 ∷ 0x01 ∷ 0x00 ∷ 0x07 ∷ 0x00 ∷ 0x00 ∷ 0x00 ∷ 0xff ∷ 0xff ∷ [])
     (number 0 ∷ holding (sent 0 (write 0 7 ∷ []) ∷ sent 1 (read 0 start ∷ []) ∷ []) ∷ order (1 ∷ 0 ∷ []) ∷ has-edge 0 1 0 ∷ [])
+    -- a read-back: 0 writes k and reads it back: order 0, no edge, no constraint
+    ∷ row (0x01 ∷ 0x00 ∷ 0x02 ∷ 0x00 ∷ 0x00 ∷ 0x02 ∷ 0x00 ∷ 0x00 ∷ 0x01 ∷ 0x00 ∷ 0x07 ∷ 0x00 ∷ 0x00 ∷ 0x00 ∷ 0x00 ∷ 0x00 ∷ [])
+    (number 0 ∷ holding (sent 0 (write 0 7 ∷ read 0 0 ∷ []) ∷ []) ∷ final (0 ∷ []) (7 ∷ replicate 31 0) ∷ edges-are 0 [] ∷ edges-are 1 [] ∷ edges-are 2 [] ∷ counts 0 0 0 ∷ [])
+    -- 0 reads k at start, writes it and reads it back: order 0, no edge, no constraint
+    ∷ row (0x01 ∷ 0x00 ∷ 0x03 ∷ 0x00 ∷ 0x00 ∷ 0x03 ∷ 0x00 ∷ 0x00 ∷ 0x00 ∷ 0x00 ∷ 0xff ∷ 0xff ∷ 0x01 ∷ 0x00 ∷ 0x07 ∷ 0x00 ∷ 0x00 ∷ 0x00 ∷ 0x00 ∷ 0x00 ∷ [])
+    (number 0 ∷ holding (sent 0 (read 0 start ∷ write 0 7 ∷ read 0 0 ∷ []) ∷ []) ∷ final (0 ∷ []) (7 ∷ replicate 31 0) ∷ edges-are 0 [] ∷ edges-are 1 [] ∷ edges-are 2 [] ∷ counts 0 0 0 ∷ [])
+    -- 0 reads k from 0, writes it and reads it back: no order, edge 0→0, as F
+    ∷ row (0x01 ∷ 0x00 ∷ 0x03 ∷ 0x00 ∷ 0x00 ∷ 0x03 ∷ 0x00 ∷ 0x00 ∷ 0x00 ∷ 0x00 ∷ 0x00 ∷ 0x00 ∷ 0x01 ∷ 0x00 ∷ 0x07 ∷ 0x00 ∷ 0x00 ∷ 0x00 ∷ 0x00 ∷ 0x00 ∷ [])
+    (number 0 ∷ holding (sent 0 (read 0 0 ∷ write 0 7 ∷ read 0 0 ∷ []) ∷ []) ∷ no-order ∷ has-edge 0 0 0 ∷ has-edge 1 0 0 ∷ has-edge 2 0 0 ∷ judged-as logF ∷ [])
+    -- E with a read-back in each writer: the same order, counts, rows and constraints as E
+    ∷ row (0x04 ∷ 0x00 ∷ 0x0a ∷ 0x00 ∷ 0x00 ∷ 0x02 ∷ 0x00 ∷ 0x00 ∷ 0x01 ∷ 0x03 ∷ 0x02 ∷ 0x00 ∷ 0x02 ∷ 0x02 ∷ 0x05 ∷ 0x00 ∷ 0x03 ∷ 0x03 ∷ 0x07 ∷ 0x00 ∷ 0x01 ∷ 0x00 ∷ 0x07 ∷ 0x00 ∷ 0x00 ∷ 0x00 ∷ 0x00 ∷ 0x00 ∷ 0x00 ∷ 0x00 ∷ 0x00 ∷ 0x00 ∷ 0x01 ∷ 0x00 ∷ 0x07 ∷ 0x00 ∷ 0x00 ∷ 0x00 ∷ 0x01 ∷ 0x00 ∷ 0x01 ∷ 0x00 ∷ 0x07 ∷ 0x00 ∷ 0x00 ∷ 0x00 ∷ 0x02 ∷ 0x00 ∷ 0x00 ∷ 0x00 ∷ 0x02 ∷ 0x00 ∷ 0x01 ∷ 0x00 ∷ 0x07 ∷ 0x00 ∷ 0x00 ∷ 0x00 ∷ 0x03 ∷ 0x00 ∷ [])
+    (number 0 ∷ holding (sent 0 (write 0 7 ∷ read 0 0 ∷ []) ∷ sent 1 (read 0 0 ∷ write 0 7 ∷ read 0 1 ∷ []) ∷ sent 2 (write 0 7 ∷ read 0 2 ∷ []) ∷ sent 3 (read 0 2 ∷ write 0 7 ∷ read 0 3 ∷ []) ∷ []) ∷ order (0 ∷ 1 ∷ 2 ∷ 3 ∷ []) ∷ counts 4 6 1 ∷ edges-are 0 (2 ∷ 0 ∷ 8 ∷ []) ∷ judged-as logE ∷ [])
+    -- behind an empty transaction, 1 reads the last key at start, writes it, writes m, and reads both back: order 0 1, no edge, no constraint
+    ∷ row (0x02 ∷ 0x00 ∷ 0x05 ∷ 0x00 ∷ 0x00 ∷ 0x00 ∷ 0x00 ∷ 0x00 ∷ 0x0f ∷ 0x05 ∷ 0x00 ∷ 0x00 ∷ 0x00 ∷ 0x1f ∷ 0xff ∷ 0xff ∷ 0x01 ∷ 0x1f ∷ 0x07 ∷ 0x00 ∷ 0x01 ∷ 0x01 ∷ 0x08 ∷ 0x00 ∷ 0x00 ∷ 0x1f ∷ 0x01 ∷ 0x00 ∷ 0x00 ∷ 0x01 ∷ 0x01 ∷ 0x00 ∷ [])
+    (number 0 ∷ holding (sent 0 [] ∷ sent 15 (read 31 start ∷ write 31 7 ∷ write 1 8 ∷ read 31 1 ∷ read 1 1 ∷ []) ∷ []) ∷ final (0 ∷ 1 ∷ []) (0 ∷ 8 ∷ (replicate 29 0 ++ (7 ∷ []))) ∷ edges-are 0 [] ∷ edges-are 1 [] ∷ edges-are 2 [] ∷ counts 0 0 0 ∷ [])
+    -- the program's example with 0's operations exchanged: a read behind a write of another key looks at earlier transactions
+    ∷ row (0x02 ∷ 0x00 ∷ 0x03 ∷ 0x00 ∷ 0x00 ∷ 0x02 ∷ 0x00 ∷ 0x00 ∷ 0x01 ∷ 0x01 ∷ 0x02 ∷ 0x00 ∷ 0x01 ∷ 0x01 ∷ 0x07 ∷ 0x00 ∷ 0x00 ∷ 0x00 ∷ 0x01 ∷ 0x00 ∷ 0x01 ∷ 0x00 ∷ 0x05 ∷ 0x00 ∷ [])
+    (number 0 ∷ holding (sent 0 (write 1 7 ∷ read 0 1 ∷ []) ∷ sent 1 (write 0 5 ∷ []) ∷ []) ∷ final (1 ∷ 0 ∷ []) (5 ∷ 7 ∷ replicate 30 0) ∷ [])
     -- the program's example: order 1 0, key 0 value 5, key 1 value 7
     ∷ row (0x02 ∷ 0x00 ∷ 0x03 ∷ 0x00 ∷ 0x00 ∷ 0x02 ∷ 0x00 ∷ 0x00 ∷ 0x01 ∷ 0x01 ∷ 0x02 ∷ 0x00 ∷ 0x00 ∷ 0x00 ∷ 0x01 ∷ 0x00 ∷ 0x01 ∷ 0x01 ∷ 0x07 ∷ 0x00 ∷ 0x01 ∷ 0x00 ∷ 0x05 ∷ 0x00 ∷ [])
     (number 0 ∷ holding (sent 0 (read 0 1 ∷ write 1 7 ∷ []) ∷ sent 1 (write 0 5 ∷ []) ∷ []) ∷ final (1 ∷ 0 ∷ []) (5 ∷ 7 ∷ replicate 30 0) ∷ [])
@@ -166,12 +209,32 @@ table =
     ∷ row (0x01 ∷ 0x00 ∷ 0x01 ∷ 0x00 ∷ 0x00 ∷ 0x01 ∷ 0x00 ∷ 0x00 ∷ 0x00 ∷ 0x20 ∷ 0x01 ∷ 0x00 ∷ []) (number 8 ∷ [])
     -- a read that names transaction 1 of 1: refused
     ∷ row (0x01 ∷ 0x00 ∷ 0x01 ∷ 0x00 ∷ 0x00 ∷ 0x01 ∷ 0x00 ∷ 0x00 ∷ 0x00 ∷ 0x1f ∷ 0x01 ∷ 0x00 ∷ []) (number 9 ∷ [])
-    -- a second read after a read and a write: refused
-    ∷ row (0x01 ∷ 0x00 ∷ 0x03 ∷ 0x00 ∷ 0x00 ∷ 0x03 ∷ 0x00 ∷ 0x00 ∷ 0x00 ∷ 0x00 ∷ 0xff ∷ 0xff ∷ 0x01 ∷ 0x00 ∷ 0x07 ∷ 0x00 ∷ 0x00 ∷ 0x00 ∷ 0xff ∷ 0xff ∷ []) (number 10 ∷ [])
-    -- a read after the write: refused
+    -- a read-back that names transaction 1 of 1: 9 stands before 11: refused
+    ∷ row (0x01 ∷ 0x00 ∷ 0x02 ∷ 0x00 ∷ 0x00 ∷ 0x02 ∷ 0x00 ∷ 0x00 ∷ 0x01 ∷ 0x00 ∷ 0x07 ∷ 0x00 ∷ 0x00 ∷ 0x00 ∷ 0x01 ∷ 0x00 ∷ []) (number 9 ∷ [])
+    -- a second read that names transaction 1 of 1: 9 stands before 10: refused
+    ∷ row (0x01 ∷ 0x00 ∷ 0x02 ∷ 0x00 ∷ 0x00 ∷ 0x02 ∷ 0x00 ∷ 0x00 ∷ 0x00 ∷ 0x00 ∷ 0xff ∷ 0xff ∷ 0x00 ∷ 0x00 ∷ 0x01 ∷ 0x00 ∷ []) (number 9 ∷ [])
+    -- a second read of a key that is not written: refused
+    ∷ row (0x01 ∷ 0x00 ∷ 0x02 ∷ 0x00 ∷ 0x00 ∷ 0x02 ∷ 0x00 ∷ 0x00 ∷ 0x00 ∷ 0x00 ∷ 0xff ∷ 0xff ∷ 0x00 ∷ 0x00 ∷ 0xff ∷ 0xff ∷ []) (number 10 ∷ [])
+    -- a second read before the write: refused
+    ∷ row (0x01 ∷ 0x00 ∷ 0x03 ∷ 0x00 ∷ 0x00 ∷ 0x03 ∷ 0x00 ∷ 0x00 ∷ 0x00 ∷ 0x00 ∷ 0xff ∷ 0xff ∷ 0x00 ∷ 0x00 ∷ 0xff ∷ 0xff ∷ 0x01 ∷ 0x00 ∷ 0x07 ∷ 0x00 ∷ []) (number 10 ∷ [])
+    -- a second write: refused
+    ∷ row (0x01 ∷ 0x00 ∷ 0x02 ∷ 0x00 ∷ 0x00 ∷ 0x02 ∷ 0x00 ∷ 0x00 ∷ 0x01 ∷ 0x00 ∷ 0x07 ∷ 0x00 ∷ 0x01 ∷ 0x00 ∷ 0x07 ∷ 0x00 ∷ []) (number 10 ∷ [])
+    -- a second write after a read-back: refused
+    ∷ row (0x01 ∷ 0x00 ∷ 0x03 ∷ 0x00 ∷ 0x00 ∷ 0x03 ∷ 0x00 ∷ 0x00 ∷ 0x01 ∷ 0x00 ∷ 0x07 ∷ 0x00 ∷ 0x00 ∷ 0x00 ∷ 0x00 ∷ 0x00 ∷ 0x01 ∷ 0x00 ∷ 0x07 ∷ 0x00 ∷ []) (number 10 ∷ [])
+    -- a second read-back: refused
+    ∷ row (0x01 ∷ 0x00 ∷ 0x03 ∷ 0x00 ∷ 0x00 ∷ 0x03 ∷ 0x00 ∷ 0x00 ∷ 0x01 ∷ 0x00 ∷ 0x07 ∷ 0x00 ∷ 0x00 ∷ 0x00 ∷ 0x00 ∷ 0x00 ∷ 0x00 ∷ 0x00 ∷ 0x00 ∷ 0x00 ∷ []) (number 10 ∷ [])
+    -- a second read-back that names the start: 10 stands before 11: refused
+    ∷ row (0x01 ∷ 0x00 ∷ 0x03 ∷ 0x00 ∷ 0x00 ∷ 0x03 ∷ 0x00 ∷ 0x00 ∷ 0x01 ∷ 0x00 ∷ 0x07 ∷ 0x00 ∷ 0x00 ∷ 0x00 ∷ 0x00 ∷ 0x00 ∷ 0x00 ∷ 0x00 ∷ 0xff ∷ 0xff ∷ []) (number 10 ∷ [])
+    -- a read-back that names the start: refused
     ∷ row (0x01 ∷ 0x00 ∷ 0x02 ∷ 0x00 ∷ 0x00 ∷ 0x02 ∷ 0x00 ∷ 0x00 ∷ 0x01 ∷ 0x00 ∷ 0x07 ∷ 0x00 ∷ 0x00 ∷ 0x00 ∷ 0xff ∷ 0xff ∷ []) (number 11 ∷ [])
+    -- a read-back that names the start, and behind it a kind of 2: the first body that is refused has the number
+    ∷ row (0x01 ∷ 0x00 ∷ 0x03 ∷ 0x00 ∷ 0x00 ∷ 0x03 ∷ 0x00 ∷ 0x00 ∷ 0x01 ∷ 0x00 ∷ 0x07 ∷ 0x00 ∷ 0x00 ∷ 0x00 ∷ 0xff ∷ 0xff ∷ 0x02 ∷ 0x00 ∷ 0x00 ∷ 0x00 ∷ []) (number 11 ∷ [])
+    -- a read-back that names the start after a read before the write: refused
+    ∷ row (0x01 ∷ 0x00 ∷ 0x03 ∷ 0x00 ∷ 0x00 ∷ 0x03 ∷ 0x00 ∷ 0x00 ∷ 0x00 ∷ 0x00 ∷ 0xff ∷ 0xff ∷ 0x01 ∷ 0x00 ∷ 0x07 ∷ 0x00 ∷ 0x00 ∷ 0x00 ∷ 0xff ∷ 0xff ∷ []) (number 11 ∷ [])
+    -- a read-back that names another transaction: refused
+    ∷ row (0x02 ∷ 0x00 ∷ 0x03 ∷ 0x00 ∷ 0x00 ∷ 0x02 ∷ 0x00 ∷ 0x00 ∷ 0x01 ∷ 0x01 ∷ 0x02 ∷ 0x00 ∷ 0x01 ∷ 0x00 ∷ 0x07 ∷ 0x00 ∷ 0x00 ∷ 0x00 ∷ 0x01 ∷ 0x00 ∷ 0x01 ∷ 0x00 ∷ 0x07 ∷ 0x00 ∷ []) (number 11 ∷ [])
     ∷ []
 
 pub histories-A-to-J : T (all (λ (r : Row). all (holds (r .log) (historyOf (r .log))) (r .claims)) table)
-unfolding bit writes reads lastWriter explained everyReadExplained isOrder keepsCabinets legal stored replay finalTable goodRead nextOfCabinet startRead badRead successor chainEdge edge rows inEnds plainOf plain between joined isSuccessor isHead tailWithin chained constraints withSide through reach closedOff pass passes polygraph arrangements firstLegal pairAt countsBefore firstNumber entryNumber seen bodyNumber bodiesNumber loadNumber transactionAt historyOf encodedList holds
+unfolding bit isReadBack outward writes reads lastWriter explained everyReadExplained isOrder keepsCabinets legal stored replay finalTable goodRead nextOfCabinet startRead badRead successor chainEdge edge rows inEnds plainOf plain between joined isSuccessor isHead tailWithin chained constraints withSide through reach closedOff pass passes polygraph arrangements firstLegal pairAt countsBefore firstNumber entryNumber seen backAt seenBack again bodyNumber bodiesNumber loadNumber transactionAt historyOf encodedList holds
 histories-A-to-J = tt

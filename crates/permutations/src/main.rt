@@ -1,4 +1,5 @@
-// Check on every list of four numbers, against a direct replay, over many small histories of four transactions with two operations each.
+// Check on every list of four numbers, against a direct replay, over many small histories of four transactions with three operations each, read-backs
+// among them.
 use samples::at;
 use samples::check_number;
 use samples::lines::end;
@@ -46,13 +47,25 @@ fn other(key: u8) -> u8 {
     if key == 0 { 1 } else { 0 }
 }
 
-// After a write of a key only the other is left, after a read of it a write of it too.
+// A read by transaction t of a key that it has written.
+fn read_back(t: u64, key: u8) -> Op {
+    Op {
+        kind: 0,
+        key,
+        argument: (t % 4) as u8,
+    }
+}
+
+// After a write of a key its read-back and the other are left, after a read of it a write of it too.
 fn second_op(h: u64, t: u64) -> Op {
     let a = first_op(h, t);
     let c = chance(h, t % 4 * 4 + 101);
     let key = (c / 2 % 2) as u8;
     let argument = (c / 4 % 5) as u8;
     if a.kind == 1 {
+        if c / 65536 % 5 == 0 {
+            return read_back(t, a.key);
+        }
         return Op {
             kind: kind_of(c),
             key: other(a.key),
@@ -73,6 +86,35 @@ fn second_op(h: u64, t: u64) -> Op {
     }
 }
 
+// Where a key was written and not read back, its read-back in one of three: the later write's first. Otherwise key 2, which nothing before it uses.
+fn third_op(h: u64, t: u64) -> Op {
+    let a = first_op(h, t);
+    let b = second_op(h, t);
+    let c = chance(h, t % 4 * 4 + 102);
+    if c / 65536 % 3 == 0 {
+        if b.kind == 1 {
+            return read_back(t, b.key);
+        }
+        if a.kind == 1 && a.key != b.key {
+            return read_back(t, a.key);
+        }
+    }
+    Op {
+        kind: kind_of(c),
+        key: 2,
+        argument: (c / 4 % 5) as u8,
+    }
+}
+
+// Operation j of transaction t.
+fn op_of(h: u64, t: u64, j: u64) -> Op {
+    match j {
+        0 => first_op(h, t),
+        1 => second_op(h, t),
+        _ => third_op(h, t),
+    }
+}
+
 // Byte f of a body.
 fn op_byte(o: Op, f: u64) -> u8 {
     let started = o.kind == 0 && o.argument == 4;
@@ -89,7 +131,7 @@ fn log_byte(h: u64, i: u64) -> u8 {
     if i < 4 {
         return match i {
             0 => 4,
-            2 => 8,
+            2 => 12,
             _ => 0,
         };
     }
@@ -97,23 +139,19 @@ fn log_byte(h: u64, i: u64) -> u8 {
         let t = (i - 4) / 4;
         return match i % 4 {
             0 => (chance(h, t) % 6) as u8,
-            1 => 2,
-            2 => (t % 4 * 2) as u8,
+            1 => 3,
+            2 => (t % 4 * 3) as u8,
             _ => 0,
         };
     }
-    let m = (i - 20) / 4 % 8;
-    if m % 2 == 0 {
-        op_byte(first_op(h, m / 2), i % 4)
-    } else {
-        op_byte(second_op(h, m / 2), i % 4)
-    }
+    let m = (i - 20) / 4 % 12;
+    op_byte(op_of(h, m / 3, m % 3), i % 4)
 }
 
-fn log_of(h: u64) -> [u8; 52] {
-    let mut out = [0u8; 52];
+fn log_of(h: u64) -> [u8; 68] {
+    let mut out = [0u8; 68];
     let mut i: usize = 0;
-    while i < 52 {
+    while i < 68 {
         out[i] = log_byte(h, i as u64);
         i += 1;
     }
@@ -152,13 +190,21 @@ fn cabinets_kept(log: &[u8], list: [u8; 4]) -> bool {
         && may_precede(log, c, d)
 }
 
-// Whether transaction t writes the key.
-fn writes(log: &[u8], t: u8, key: u8) -> bool {
-    let first = 20 + 8 * (t as usize);
-    if at(log, first) == 1 && at(log, first + 1) == key {
-        return true;
-    }
-    at(log, first + 4) == 1 && at(log, first + 5) == key
+// Byte f of body j of transaction t.
+fn field(log: &[u8], t: u8, j: usize, f: usize) -> u8 {
+    at(log, 20 + 12 * (t as usize) + 4 * (j % 3) + f % 4)
+}
+
+// Whether body j of transaction t writes the key.
+fn body_writes(log: &[u8], t: u8, j: usize, key: u8) -> bool {
+    field(log, t, j, 0) == 1 && field(log, t, j, 1) == key
+}
+
+// Whether one of the first n bodies of transaction t writes the key.
+fn writes(log: &[u8], t: u8, n: usize, key: u8) -> bool {
+    n > 0 && body_writes(log, t, 0, key)
+        || n > 1 && body_writes(log, t, 1, key)
+        || n > 2 && body_writes(log, t, 2, key)
 }
 
 // The last writer of the key among the first i transactions of the list, or 255.
@@ -166,7 +212,7 @@ fn last_writer(log: &[u8], list: [u8; 4], i: usize, key: u8) -> u8 {
     let mut found: u8 = 255;
     let mut j: usize = 0;
     while j < i {
-        if writes(log, at(&list, j), key) {
+        if writes(log, at(&list, j), 3, key) {
             found = at(&list, j);
         }
         j += 1;
@@ -174,20 +220,25 @@ fn last_writer(log: &[u8], list: [u8; 4], i: usize, key: u8) -> u8 {
     found
 }
 
-// Whether the body at a byte number, of the transaction at place i, is explained, if it is a read.
-fn body_explained(log: &[u8], list: [u8; 4], i: usize, body: usize) -> bool {
-    if body > 51 {
+// Whether body j of the transaction at place i is explained, if it is a read: by the transaction's own write where that stands before it, else by the
+// last writer among those before.
+fn body_explained(log: &[u8], list: [u8; 4], i: usize, j: usize) -> bool {
+    let t = at(&list, i);
+    if field(log, t, j, 0) == 1 {
         return true;
     }
-    if at(log, body) == 1 {
-        return true;
+    let key = field(log, t, j, 1);
+    let name = field(log, t, j, 2);
+    if writes(log, t, j, key) {
+        return name == t;
     }
-    last_writer(log, list, i, at(log, body + 1)) == at(log, body + 2)
+    last_writer(log, list, i, key) == name
 }
 
 fn place_explained(log: &[u8], list: [u8; 4], i: usize) -> bool {
-    let first = 20 + 8 * (at(&list, i) as usize);
-    body_explained(log, list, i, first) && body_explained(log, list, i, first + 4)
+    body_explained(log, list, i, 0)
+        && body_explained(log, list, i, 1)
+        && body_explained(log, list, i, 2)
 }
 
 // 13 where the list is no permutation, 100 where it is legal, else 101.
@@ -212,6 +263,7 @@ fn direct(log: &[u8], list: [u8; 4]) -> u64 {
 // ---- the comparison
 
 pub struct Tally {
+    pub backs: u64,
     pub refused: u64,
     pub legal: u64,
     pub illegal: u64,
@@ -225,6 +277,7 @@ fn more(n: u64, yes: bool) -> u64 {
 // One answer more: of Check, and of the direct replay.
 fn told(s: Tally, check: u64, replay: u64) -> Tally {
     Tally {
+        backs: s.backs,
         refused: more(s.refused, check == 13),
         legal: more(s.legal, check == 100),
         illegal: more(s.illegal, check == 101),
@@ -255,8 +308,31 @@ fn all_lists(s: Tally, h: u64) -> Tally {
     out
 }
 
+// Whether body j of transaction t is a read-back.
+fn is_back(log: &[u8], t: u8, j: usize) -> bool {
+    field(log, t, j, 0) == 0 && writes(log, t, j, field(log, t, j, 1))
+}
+
+// Whether transaction t has one.
+fn reads_back(log: &[u8], t: u8) -> bool {
+    is_back(log, t, 1) || is_back(log, t, 2)
+}
+
+// Whether history h has one.
+fn any_back(h: u64) -> bool {
+    let log = log_of(h);
+    reads_back(&log, 0) || reads_back(&log, 1) || reads_back(&log, 2) || reads_back(&log, 3)
+}
+
+fn one_history(s: Tally, h: u64) -> Tally {
+    let mut out = all_lists(s, h);
+    out.backs = more(s.backs, any_back(h));
+    out
+}
+
 fn all_histories(n: u64) -> Tally {
     let mut out = Tally {
+        backs: 0,
         refused: 0,
         legal: 0,
         illegal: 0,
@@ -264,7 +340,7 @@ fn all_histories(n: u64) -> Tally {
     };
     let mut h: u64 = 0;
     while h < n {
-        let next = all_lists(out, h);
+        let next = one_history(out, h);
         out = next;
         h += 1;
     }
@@ -273,7 +349,9 @@ fn all_histories(n: u64) -> Tally {
 
 fn main() {
     let t = all_histories(400);
-    text(b"400 histories, all lists of four numbers: refused");
+    text(b"400 histories, with read-backs");
+    number(t.backs);
+    text(b"; all lists of four numbers: refused");
     number(t.refused);
     text(b", legal");
     number(t.legal);

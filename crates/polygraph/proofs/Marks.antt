@@ -1,13 +1,14 @@
 -- Tables of sets: words into which a loop puts sets, and what the bits are in the end. Assumes nothing.
-use Prim.Native.Nat.{ℕ, _+_, _^_, _≤_, _<_}
+use Prim.Native.Nat.{ℕ, zero, suc, _+_, _*_, _%_, _^_, _≤_, _<_}
 use native.Mathlib.Omega.{arith}
+use native.Mathlib.Nat.{zero-mul}
 use native.Mathlib.Numerals.{add-one}
 use mathlib.Core.Path.{_≡_, sym, ap, ap₂, subst, _∙_}
 use mathlib.Core.Logic.{⊎-elim, _≢_}
 use mathlib.Core.Bool.{Bool, true, false, not, _&&_, _||_, or-false, or-assoc}
 use mathlib.Core.List.{List, [], _∷_, map}
 use lib.Dec.{T, eqb, ltb, ltb→lt, nltb→le}
-use lib.Bits.{bitOr, or-lt}
+use lib.Bits.{bitOr, or-lt, or-zero-l}
 use lib.Pow.{pow-lt, pow-pos}
 use lib.ListN.{length, getD, set, take, length-set, List·getD-eq-default}
 use lib.Seq.{getD-set-same, getD-set-other, take-suc, ext-getD}
@@ -17,6 +18,7 @@ use Rattle.model.proofs.Words.{bit-word, word-lt, word-small, length-upTo, getD
 use Rattle.model.proofs.Loops.{map-snoc, fold-snoc}
 use Rattle.model.proofs.Masks.{bit-or, bit-one, bit-none, same-bits}
 use Rattle.graph.specs.Masks.{putIf}
+use Rattle.graph.proofs.Rows.{one-shl}
 use Rattle.polygraph.specs.Tables.{putAt}
 
 -- ---- one set alone
@@ -30,6 +32,13 @@ pub single-small : (t : ℕ) (b : Bool) → t < 32 → putIf 0 t b < 2 ^ 32
 unfolding putIf
 single-small t true l = or-lt 32 0 (2 ^ t) (pow-pos 32) (pow-lt l)
 single-small t false l = pow-pos 32
+
+-- the same where the kind of an operation is the set's bit
+pub mark-is : (t kind : ℕ) → t < 32 → kind < 2 → (kind * 2 ^ t) % 2 ^ 32 ≡ putIf 0 t (eqb kind 1)
+unfolding putIf
+mark-is t zero l k = ap (λ x. x % 2 ^ 32) (zero-mul (2 ^ t))
+mark-is t (suc zero) l k = one-shl t l ∙ sym (or-zero-l (2 ^ t))
+mark-is t (suc (suc n)) l k = absurd (omega arith)
 
 -- a store of a word with a set in it
 pub put-is : (w : List ℕ) (i j x v : ℕ) → i ≡ j → v ≡ bitOr (getD w i 0) x → set w i v ≡ putAt w j x

@@ -11,7 +11,7 @@ use lib.Count.{trailingZeros}
 use lib.Pow.{pow-lt}
 use lib.ListN.{getD, take, replicate, length-replicate}
 use Rattle.model.specs.Lists.{any, all, fold, upTo, bit, wordOf}
-use Rattle.model.specs.History.{History, start, size, outward, writes, reads}
+use Rattle.model.specs.History.{History, start, size, isRead, outward, writes, reads}
 use Rattle.model.specs.Polygraph.{goodRead, nextOfCabinet, startRead, badRead, successor, chainEdge, edge, rows}
 use Rattle.model.specs.Log.{loadNumber, historyOf}
 use Rattle.model.proofs.Loaded.{history-size, operations-past}
@@ -113,11 +113,11 @@ module _ (b : List ℕ) (e : loadNumber b ≡ 0) where
 
   -- who has a read is below T
   bad-low : (s : ℕ) → T (badRead h s) → s < size h
-  unfolding badRead
+  unfolding badRead outward
   bad-low s x =
       ⊎-elim (λ (l : T (ltb s (size h))). ltb→lt s (size h) l)
       (λ (l : T (not (ltb s (size h)))).
-      absurd (eq-T (ap (any (λ r. outward r && (not (eqb (r .argument) start) && not (goodRead h (r .key) s (r .argument))))) (operations-past b s (omega (arith, history-size b, nltb→le s (size h) l)))) x))
+      absurd (eq-T (ap (λ os. any (λ r. isRead r && (not (eqb (r .argument) start) && not (goodRead h (r .key) s (r .argument)))) (outward os)) (operations-past b s (omega (arith, history-size b, nltb→le s (size h) l)))) x))
       (decide (ltb s (size h)))
 
   mark-low : (i s : ℕ) → T (readMark h i s) → s < size h

@@ -1,13 +1,13 @@
 -- The tables that everything else reads: who writes each key, the reads as numbers, and the reads by what they name. Assumes nothing.
 use Prim.Native.Nat.{ℕ, _+_, _-_, _*_, _/_, _%_, _^_, _≤_}
 use mathlib.Core.Path.{_≡_}
-use mathlib.Core.Bool.{Bool, not, cond, _&&_}
+use mathlib.Core.Bool.{Bool, false, not, cond, _&&_}
 use mathlib.Core.List.{List, _++_, map}
 use lib.Dec.{eqb, ltb}
 use lib.Bits.{bitOr}
 use lib.ListN.{length, getD, set, take}
 use Rattle.model.specs.Lists.{keep, each, fold, upTo, bit, wordOf}
-use Rattle.model.specs.History.{History, Operation, start, size, operationsOf, outward, isWrite, writes, reads}
+use Rattle.model.specs.History.{History, Operation, start, size, operationsOf, outward, isRead, isWrite, writes, reads}
 use Rattle.model.specs.Polygraph.{goodRead, badRead}
 use Rattle.model.specs.Log.{countAt, loadNumber, historyOf}
 use Rattle.graph.specs.Masks.{putIf}
@@ -37,7 +37,7 @@ argumentIn r = r % 65536
 
 -- of t, in body order: those that look at earlier transactions
 unfoldable pub readsIn : ℕ → List Operation → List ℕ
-readsIn t os = map (packedRead t) (keep outward os)
+readsIn t os = map (packedRead t) (keep isRead (outward os))
 
 -- of all, in the order of the log
 unfoldable pub readsOf : History → List ℕ
@@ -85,7 +85,12 @@ markStep writers w r = putAt w (slotIn writers r) (2 ^ ownerIn r)
 
 -- ---- what a log that Load takes is decoded to
 
--- the operations of t: its writes in the writers, its reads behind the first `from`
+-- 32 words, none of which has t yet: then t in a word says that t has written the key by now
+pub record Unmarked (t : ℕ) (w : List ℕ) : Type 0 where
+  pub long : length w ≡ 32
+  pub none : (k : ℕ) → bit (getD w k 0) t ≡ false
+
+-- the operations of t: its writes in the writers, its reads that look at earlier transactions behind the first `from`
 pub record DecodedOne (b : List ℕ) (t from : ℕ) (ws rs writers reads : List ℕ) (count : ℕ) : Type 0 where
   pub writers-with : writers ≡ fold (writeStep t) ws (operationsOf (historyOf b) t)
   pub reads-behind : take count reads ≡ take from rs ++ readsIn t (operationsOf (historyOf b) t)

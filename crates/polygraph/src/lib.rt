@@ -9,8 +9,9 @@ ghost use lib.ListN.{length, getD, replicate};
 ghost use Rattle.model.specs.Lists.{bit};
 ghost use Rattle.model.specs.Polygraph.{rows};
 ghost use Rattle.model.specs.Log.{transactionsIn, startAt, loadNumber, historyOf};
+ghost use Rattle.graph.specs.Masks.{putIf};
 ghost use Rattle.log.specs.Reading.{InLog};
-ghost use Rattle.polygraph.specs.Tables.{writersOf, packedAs, readMarksOf, slotBy, slotIn, markStep, DecodedOne, Decoded};
+ghost use Rattle.polygraph.specs.Tables.{writersOf, packedAs, readMarksOf, slotBy, slotIn, markStep, Unmarked, DecodedOne, Decoded};
 ghost use Rattle.polygraph.specs.Edges.{nextBy, successorsBy, cabinetRows, ownEdge, readStep};
 use graph::mask::has;
 use graph::mask::lowest;
@@ -46,15 +47,25 @@ fn packed(t: usize, key: usize, argument: usize) -> u32
     ((key * 256 + t) * 65536 + argument) as u32
 }
 
-// A count of reads after one more operation.
-fn counted(count: usize, kind: usize) -> usize
-    requires { ⌜ count < 256 ⌝ }
-    ensures { λ r. ⌜ r ≡ cond (eqb kind 0) (count + 1) count ⌝ }
+// The set with t alone for a write, kind 1, and the empty set for a read, kind 0: the kind itself is the bit.
+fn mark_of(t: usize, kind: usize) -> u32
+    requires { ⌜ (t < 32) × (kind < 2) ⌝ }
+    ensures { λ r. ⌜ r ≡ putIf 0 t (eqb kind 1) ⌝ }
 {
-    if kind == 0 { count + 1 } else { count }
+    (kind as u32) << (t as u32)
 }
 
-// The operations of transaction t: its writes go into the table, its reads behind those before, of which there are `from`.
+// A count of reads after one more operation, which is none where its transaction has written the key by now.
+fn counted(count: usize, written: bool) -> usize
+    requires { ⌜ count < 256 ⌝ }
+    ensures { λ r. ⌜ r ≡ cond written count (count + 1) ⌝ }
+{
+    if written { count } else { count + 1 }
+}
+
+// The operations of transaction t: its writes go into the table, its reads that look at earlier ones behind those before, of which there are `from`.
+// The table has no mark of t at first, so after an operation's own mark t stands at its key for a write and for a read-back alone: any other
+// operation is a read that counts.
 fn decode_transaction(
     log: &[u8],
     t: usize,
@@ -62,7 +73,7 @@ fn decode_transaction(
     reads: &mut [u32; 256],
     from: usize,
 ) -> usize
-    requires { ⌜ InLog (now log) t × (t < 32) × (from ≤ startAt (now log) t) × (length (now reads) ≡ 256) ⌝ }
+    requires { ⌜ InLog (now log) t × (t < 32) × (from ≤ startAt (now log) t) × (length (now reads) ≡ 256) × Unmarked t (now writers) ⌝ }
     ensures { λ r. ⌜ DecodedOne (now (log .entry)) t from (now (writers .entry)) (now (reads .entry)) (now (writers .exit)) (now (reads .exit)) r ⌝ }
 {
     let n = log::count(log, t);
@@ -71,16 +82,17 @@ fn decode_transaction(
     while m < n {
         let o = log::operation(log, t, m);
         let key = o.key;
-        let mark = put_if(0, t as u32, o.kind == 1);
-        writers[key] = writers[key] | mark;
+        let mark = mark_of(t, o.kind);
+        let w = writers[key] | mark;
+        writers[key] = w;
         reads[count] = packed(t, key, o.argument);
-        count = counted(count, o.kind);
+        count = counted(count, has(w, t as u32));
         m += 1;
     }
     count
 }
 
-// Bit t of word k of the writers: t writes k. The reads, in the order of the log; how many there are.
+// Bit t of word k of the writers: t writes k. The reads that look at earlier transactions, in the order of the log; how many there are.
 pub fn decode(log: &[u8], writers: &mut [u32; 32], reads: &mut [u32; 256]) -> usize
     requires { ⌜ (loadNumber (now log) ≡ 0) × (now writers ≡ replicate 32 0) × (length (now reads) ≡ 256) ⌝ }
     ensures { λ r. ⌜ Decoded (now (log .entry)) (now (writers .exit)) (now (reads .exit)) r ⌝ }

@@ -2,10 +2,10 @@
 use Prim.Native.Nat.{ℕ, suc, _+_, _<_}
 use native.Mathlib.Omega.{arith}
 use native.Mathlib.Numerals.{add-one}
-use mathlib.Core.Path.{_≡_, refl, sym, ap, ap₂, subst}
+use mathlib.Core.Path.{_≡_, refl, sym, ap₂, subst}
 use mathlib.Core.Logic.{⊎-elim, _≢_}
 use mathlib.Core.Bool.{Bool, true, false, not, _&&_}
-use mathlib.Core.List.{List, [], _∷_, map}
+use mathlib.Core.List.{List, [], _∷_}
 use lib.Dec.{T}
 use Rattle.model.specs.Lists.{all, All, upTo}
 use Rattle.model.proofs.Basics.{same?, true-eq, false-eq, clash, not-intro, all-upTo-out, all-upTo-in, upTo-in}
@@ -43,7 +43,3 @@ module _ {A : Type 0} (p q : A → Bool) where
 
 pub all-upTo-same : (p q : ℕ → Bool) (n : ℕ) → ((i : ℕ) → i < n → p i ≡ q i) → all p (upTo n) ≡ all q (upTo n)
 all-upTo-same p q n f = all-same p q (upTo n) (upTo-in (λ i. p i ≡ q i) n f)
-
-pub all-map : {A B : Type 0} (p : B → Bool) (f : A → B) (xs : List A) → all p (map f xs) ≡ all (λ x. p (f x)) xs
-all-map p f [] = refl
-all-map p f (x ∷ xs) = ap (λ b. p (f x) && b) (all-map p f xs)

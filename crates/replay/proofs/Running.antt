@@ -1,33 +1,69 @@
 -- The replay over a table: one transaction's operations, and the last writers that explain its reads. Assumes nothing.
-use Prim.Native.Nat.{ℕ, _+_, _<_}
+use Prim.Native.Nat.{ℕ, _+_, _^_, _<_}
 use native.Mathlib.Omega.{arith}
 use native.Mathlib.Numerals.{add-one}
 use mathlib.Core.Path.{_≡_, refl, sym, ap, ap₂, subst, _∙_}
 use mathlib.Core.Logic.{_⊎_, ⊎-elim, _≢_}
-use mathlib.Core.Bool.{Bool, true, false, cond, _&&_, _||_}
+use mathlib.Core.Bool.{Bool, true, false, cond, _&&_, _||_, or-true, or-false}
 use mathlib.Core.List.{List, [], _∷_, _++_, map}
 use lib.Dec.{T, eqb}
 use lib.ListN.{length, getD, set, take, replicate, length-set, getD-replicate}
 use lib.Seq.{getD-set-same, getD-set-other, set-getD, take-suc, take-all}
-use Rattle.model.specs.Lists.{implies, all, any, keep, fold, upTo, place}
-use Rattle.model.specs.History.{Operation, History, start, size, operationsOf, isWrite, outward, writes, lastWriter, explained, everyReadExplained, stored, replay, finalTable}
-use Rattle.model.specs.Log.{transactionsIn, countAt, startAt, loadNumber, operationAt, historyOf}
-use Rattle.model.proofs.Basics.{true-eq, false-eq, eq-eqb, ne-eqb, same?, iff-eq, All-imp, all-upTo-out, all-upTo-in}
+use Rattle.model.specs.Lists.{implies, all, any, keep, fold, upTo, place, bit}
+use Rattle.model.specs.History.{Operation, History, start, size, operationsOf, isRead, isWrite, isReadBack, outward, outwardOf, writes, lastWriter, explained, everyReadExplained, stored, replay, finalTable}
+use Rattle.model.specs.Log.{transactionsIn, countAt, loadNumber, historyOf}
+use Rattle.model.proofs.Basics.{true-eq, false-eq, eq-eqb, ne-eqb, eqb-comm, same?, iff-eq, All-imp, all-upTo-out, all-upTo-in}
 use Rattle.model.proofs.Loaded.{history-size, operationOf, operations-at, loadable-log}
+use Rattle.model.proofs.Known.{outward-keys}
+use Rattle.model.proofs.ReadBacks.{behind, all-outward, Wrote, wrote-next, wrote-back}
+use Rattle.model.proofs.Masks.{bit-or, bit-one}
 use Rattle.model.proofs.Loops.{map-snoc, keep-snoc, fold-snoc, before-take}
 use Rattle.model.proofs.Places.{Order, order-once, order-place, order-length}
+use Rattle.graph.specs.Masks.{putIf}
 use Rattle.log.specs.Reading.{asOperation}
 use Rattle.log.specs.declared.Body.{Body}
 use Rattle.replay.specs.Steps.{agreesBy, readsAgree, putBy, storedBy}
-use Rattle.replay.proofs.Alls.{all-same, all-map}
+use Rattle.replay.proofs.Alls.{all-same}
 use Rattle.replay.proofs.Ordering.{small-at}
 use Rattle.replay.proofs.Placing.{at-place}
 
 -- ---- one transaction's reads
 
-pub reads-are : (b last : List ℕ) (t : ℕ) → t < transactionsIn b → all (λ m. agreesBy last (operationAt b (startAt b t + m))) (upTo (countAt b t)) ≡ readsAgree (historyOf b) last t
-unfolding readsAgree
-reads-are b last t l = sym (all-map (agreesBy last) (operationOf b t) (upTo (countAt b t))) ∙ ap (all (agreesBy last)) (sym (operations-at b t l))
+-- operation m of t is a read-back, or agrees with the table
+unfoldable pub passes : List ℕ → List ℕ → ℕ → ℕ → Bool
+passes b last t m = isReadBack (behind (operationOf b t) m) (operationOf b t m) || agreesBy last (operationOf b t m)
+
+-- ---- as the code does it: a mask has the keys written so far, those of operation m too, which is no matter to a read
+
+put-bit : (w v : ℕ) (put : Bool) (k : ℕ) → bit (putIf w v put) k ≡ (bit w k || (put && eqb v k))
+unfolding putIf
+put-bit w v true k = bit-or w (2 ^ v) k ∙ ap (λ x. bit w k || x) (bit-one v k ∙ eqb-comm k v)
+put-bit w v false k = sym (or-false (bit w k))
+
+module _ (b : List ℕ) (t m w v : ℕ) (o : Body) (wrote : Wrote (operationOf b t) m (bit w)) (is : asOperation o ≡ operationOf b t m)
+    (e : v ≡ putIf w (o .key) (isWrite (asOperation o))) where
+  abbrev r : Operation
+  r = operationOf b t m
+
+  marked : (k : ℕ) → bit v k ≡ (bit w k || (isWrite r && eqb (r .key) k))
+  marked k = ap (λ x. bit x k) (e ∙ ap (λ (x : Operation). putIf w (x .key) (isWrite x)) is) ∙ put-bit w (r .key) (isWrite r) k
+
+  pub written-next : Wrote (operationOf b t) (m + 1) (bit v)
+  written-next = wrote-next (operationOf b t) m (bit w) (bit v) wrote marked
+
+  pub passes-by : (last : List ℕ) (x : Bool) → x ≡ (bit v (o .key) || agreesBy last (asOperation o)) → x ≡ passes b last t m
+  unfolding passes agreesBy
+  passes-by last x p =
+      p ∙ ap (λ (x : Operation). bit v (x .key) || agreesBy last x) is
+      ∙ go (isRead r) (bit v (r .key)) (isReadBack (behind (operationOf b t) m) r) (eqb (getD last (r .key) 0) (r .argument)) (wrote-back (operationOf b t) m (bit v) written-next)
+    where
+      go : (read x y q : Bool) → (T read → x ≡ y) → (x || implies read q) ≡ (y || implies read q)
+      go true x y q f = ap (λ z. z || q) (f tt)
+      go false x y q f = or-true x ∙ sym (or-true y)
+
+pub reads-are : (b last : List ℕ) (t : ℕ) → t < transactionsIn b → all (passes b last t) (upTo (countAt b t)) ≡ readsAgree (historyOf b) last t
+unfolding passes readsAgree
+reads-are b last t l = sym (all-outward (agreesBy last) (operationOf b t) (countAt b t)) ∙ ap (λ os. all (agreesBy last) (outward os)) (sym (operations-at b t l))
 
 -- ---- one transaction's writes
 
@@ -159,18 +195,18 @@ module _ (b o : List ℕ) (ok : loadNumber b ≡ 0) (r : Order (transactionsIn b
   h = historyOf b
 
   abbrev told : ℕ → Bool
-  told t = all (λ r. implies (outward r) (explained h o t r)) (operationsOf h t)
+  told t = all (λ r. implies (isRead r) (explained h o t r)) (outwardOf h t)
 
   agrees-is : (i : ℕ) → i < length o → agreesAt b o i ≡ told (getD o i 0)
   unfolding agreesAt readsAgree agreesBy explained ranBy
   agrees-is i l =
-      all-same (agreesBy (ranBy true b (replicate 32 65535) (take i o))) (λ r. implies (outward r) (explained h o (getD o i 0) r)) (operationsOf h (getD o i 0))
-      (All-imp (λ r. r .key < 32) (λ r. agreesBy (ranBy true b (replicate 32 65535) (take i o)) r ≡ implies (outward r) (explained h o (getD o i 0) r))
+      all-same (agreesBy (ranBy true b (replicate 32 65535) (take i o))) (λ r. implies (isRead r) (explained h o (getD o i 0) r)) (outwardOf h (getD o i 0))
+      (All-imp (λ r. r .key < 32) (λ r. agreesBy (ranBy true b (replicate 32 65535) (take i o)) r ≡ implies (isRead r) (explained h o (getD o i 0) r))
       (λ r low.
-      ap (λ x. implies (outward r) (eqb x (r .argument)))
+      ap (λ x. implies (isRead r) (eqb x (r .argument)))
       (marked-at h (r .key) low (take i o) (replicate 32 65535) start refl (getD-replicate 32 (r .key) 65535 0 low)
       ∙ ap (lastWriter h (r .key) start) (sym (before-take o (order-once r′) i l))))
-      (operationsOf h (getD o i 0)) (loadable-log b ok .keys (getD o i 0)))
+      (outwardOf h (getD o i 0)) (outward-keys h (loadable-log b ok) (getD o i 0)))
     where
       r′ : Order (transactionsIn b) o
       r′ = r

@@ -5,20 +5,20 @@ use mathlib.Core.List.{List}
 use lib.Dec.{eqb, ltb}
 use lib.ListN.{getD, set}
 use Rattle.model.specs.Lists.{implies, all, keep, fold}
-use Rattle.model.specs.History.{Operation, History, operationsOf, isWrite, outward, mustPrecede}
+use Rattle.model.specs.History.{Operation, History, operationsOf, outwardOf, isRead, isWrite, mustPrecede}
 use Rattle.model.specs.Log.{historyOf}
 
 -- u stands before v where it must, by the places of an order
 unfoldable pub keptBy : List ℕ → List ℕ → ℕ → ℕ → Bool
 keptBy b places u v = implies (mustPrecede (historyOf b) u v) (ltb (getD places u 0) (getD places v 0))
 
--- a read that looks outward names the last writer of its key
+-- a read names the last writer of its key
 unfoldable pub agreesBy : List ℕ → Operation → Bool
-agreesBy last o = implies (outward o) (eqb (getD last (o .key) 0) (o .argument))
+agreesBy last o = implies (isRead o) (eqb (getD last (o .key) 0) (o .argument))
 
--- all reads of transaction t
+-- all reads of transaction t that look at earlier ones
 unfoldable pub readsAgree : History → List ℕ → ℕ → Bool
-readsAgree h last t = all (agreesBy last) (operationsOf h t)
+readsAgree h last t = all (agreesBy last) (outwardOf h t)
 
 -- a table with x at the operation's key, where it is a write
 unfoldable pub putBy : List ℕ → Operation → ℕ → List ℕ

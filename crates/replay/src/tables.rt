@@ -7,9 +7,11 @@ ghost use Rattle.model.specs.History.{isOrder, isWrite, everyReadExplained, fin
 ghost use Rattle.model.specs.Log.{transactionsIn, loadNumber, historyOf};
 ghost use Rattle.log.specs.Reading.{InLog, asOperation};
 ghost use Rattle.replay.specs.Steps.{agreesBy, readsAgree, storedBy};
+use graph::mask::has;
+use graph::mask::put_if;
 use log::Body;
 
-// Whether a read that looks outward names the last writer of its key.
+// Whether a read names the last writer of its key.
 fn agrees(last: [u16; 32], o: Body) -> bool
     requires { ⌜ o .key < 32 ⌝ }
     ensures { λ r. ⌜ r ≡ agreesBy last (asOperation o) ⌝ }
@@ -21,15 +23,20 @@ fn agrees(last: [u16; 32], o: Body) -> bool
     last[key] as usize == o.argument
 }
 
-// The same of all reads of transaction t.
+// The same of all reads of transaction t. A mask has the keys that it has written so far: a read of one of them is a read-back, which the
+// write before it explains.
 fn reads_agree(log: &[u8], last: [u16; 32], t: usize) -> bool
     requires { ⌜ InLog (now log) t ⌝ }
     ensures { λ r. ⌜ r ≡ readsAgree (historyOf (now (log .entry))) last t ⌝ }
 {
     let count = log::count(log, t);
+    let mut written: u32 = 0;
     let mut m: usize = 0;
     while m < count {
-        if !agrees(last, log::operation(log, t, m)) {
+        let o = log::operation(log, t, m);
+        let key = o.key as u32;
+        written = put_if(written, key, o.kind == 1);
+        if !(has(written, key) | agrees(last, o)) {
             return false;
         }
         m += 1;

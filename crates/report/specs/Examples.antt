@@ -3,8 +3,8 @@ use Prim.Native.Nat.{ℕ}
 use mathlib.Core.Path.{_≡_, refl}
 use mathlib.Core.List.{List, [], _∷_}
 use Rattle.model.specs.Lists.{All, bit}
-use Rattle.model.specs.History.{writes, reads, lastWriter, explained, everyReadExplained, isOrder, keepsCabinets, legal, stored, replay, finalTable}
-use Rattle.model.specs.Log.{pairAt, countsBefore, firstNumber, entryNumber, seen, bodyNumber, bodiesNumber, loadNumber, transactionAt, historyOf}
+use Rattle.model.specs.History.{isReadBack, outward, writes, reads, lastWriter, explained, everyReadExplained, isOrder, keepsCabinets, legal, stored, replay, finalTable}
+use Rattle.model.specs.Log.{pairAt, countsBefore, firstNumber, entryNumber, seen, backAt, seenBack, again, bodyNumber, bodiesNumber, loadNumber, transactionAt, historyOf}
 use Rattle.model.specs.Polygraph.{goodRead, successor, inEnds, between, isSuccessor, isHead, tailWithin, chained, constraints}
 use Rattle.model.specs.Search.{arrangements, firstLegal}
 use Rattle.report.specs.Text.{letters, digits, numberText, refusedText, orderText, keyText, lineIf, tableText, foundText}
@@ -35,11 +35,14 @@ examples =
     -- the last key, with the largest value
     ∷ example (0x01 ∷ 0x00 ∷ 0x01 ∷ 0x00 ∷ 0x0f ∷ 0x01 ∷ 0x00 ∷ 0x00 ∷ 0x01 ∷ 0x1f ∷ 0xff ∷ 0xff ∷ [])
     (letters "order 0\nkey 31 value 65535\n")
-    -- a read after the transaction's own write of the key
+    -- a write that its transaction reads back
+    ∷ example (0x01 ∷ 0x00 ∷ 0x02 ∷ 0x00 ∷ 0x00 ∷ 0x02 ∷ 0x00 ∷ 0x00 ∷ 0x01 ∷ 0x00 ∷ 0x07 ∷ 0x00 ∷ 0x00 ∷ 0x00 ∷ 0x00 ∷ 0x00 ∷ [])
+    (letters "order 0\nkey 0 value 7\n")
+    -- a read after the write of the key that names the start
     ∷ example (0x01 ∷ 0x00 ∷ 0x02 ∷ 0x00 ∷ 0x00 ∷ 0x02 ∷ 0x00 ∷ 0x00 ∷ 0x01 ∷ 0x00 ∷ 0x07 ∷ 0x00 ∷ 0x00 ∷ 0x00 ∷ 0xff ∷ 0xff ∷ [])
     (letters "refused 11\n")
     ∷ []
 
 pub examples-printed : All (λ (e : Example). judgeText (e .input) ≡ e .text) examples
-unfolding bit writes reads lastWriter explained everyReadExplained isOrder keepsCabinets legal stored replay finalTable arrangements firstLegal pairAt countsBefore firstNumber entryNumber seen bodyNumber bodiesNumber loadNumber transactionAt historyOf digits numberText refusedText orderText keyText lineIf tableText foundText written decidedText judgeNumber judgeText goodRead successor inEnds between isSuccessor isHead tailWithin chained constraints
-examples-printed = (refl, (refl, (refl, (refl, (refl, (refl, (refl, tt)))))))
+unfolding bit isReadBack outward writes reads lastWriter explained everyReadExplained isOrder keepsCabinets legal stored replay finalTable arrangements firstLegal pairAt countsBefore firstNumber entryNumber seen backAt seenBack again bodyNumber bodiesNumber loadNumber transactionAt historyOf digits numberText refusedText orderText keyText lineIf tableText foundText written decidedText judgeNumber judgeText goodRead successor inEnds between isSuccessor isHead tailWithin chained constraints
+examples-printed = (refl, (refl, (refl, (refl, (refl, (refl, (refl, (refl, tt))))))))

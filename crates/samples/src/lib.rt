@@ -1,8 +1,10 @@
-// What the test programs share: a full log to change bytes of, calls with their answers as numbers, and lines of output.
+// What the test programs share: a full log to change bytes of, logs with read-backs at the limits, calls with their answers as numbers, and lines of
+// output.
 use checker::Case;
 use checker::Judgement;
 use checker::Stage;
 
+mod backs;
 pub mod lines;
 
 // A byte of a list, or 0 past its end.
@@ -47,16 +49,34 @@ fn full_byte(i: usize) -> u8 {
     }
 }
 
-// Byte i of the full log, or of the numbers 0, 1, 2 and on.
-fn byte_of(log: bool, i: usize) -> u8 {
-    if log { full_byte(i) } else { (i % 256) as u8 }
+// What a list of bytes is: the numbers 0, 1, 2 and on; the full log; the full log with read-backs; the log of one transaction with read-backs, key by key
+// or in three rounds.
+enum List {
+    Ascending,
+    Full,
+    Backed,
+    Long(bool),
 }
 
-fn filled(log: bool) -> [u8; 1156] {
+// Byte i of a list.
+fn byte_of(list: List, i: usize) -> u8 {
+    match list {
+        List::Ascending => (i % 256) as u8,
+        List::Full => full_byte(i),
+        List::Backed => if i < 132 {
+            full_byte(i)
+        } else {
+            backs::full_body_byte((i - 132) / 4, i % 4)
+        },
+        List::Long(rounds) => backs::long_byte(rounds, i),
+    }
+}
+
+fn filled(list: List) -> [u8; 1156] {
     let mut out = [0u8; 1156];
     let mut i: usize = 0;
     while i < 1156 {
-        out[i] = byte_of(log, i);
+        out[i] = byte_of(list, i);
         i += 1;
     }
     out
@@ -64,12 +84,22 @@ fn filled(log: bool) -> [u8; 1156] {
 
 // The full log.
 pub fn full() -> [u8; 1156] {
-    filled(true)
+    filled(List::Full)
+}
+
+// A full log with three read-backs in each transaction. 0, 1, 2 and on is a legal order.
+pub fn full_backed() -> [u8; 1156] {
+    filled(List::Backed)
+}
+
+// One transaction that reads 32 keys, writes them and reads them back: 96 operations, in the first 392 bytes. It does so key by key, or in three rounds.
+pub fn long(rounds: bool) -> [u8; 1156] {
+    filled(List::Long(rounds))
 }
 
 // The numbers 0, 1, 2 and on.
 pub fn ascending() -> [u8; 1156] {
-    filled(false)
+    filled(List::Ascending)
 }
 
 // The list with x at place i.

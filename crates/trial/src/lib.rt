@@ -1,11 +1,12 @@
-// Random histories for test programs, and a direct reading of document 01 over them. Nothing here is shared with the code under test: a sample is a
+// Random histories for test programs, and a direct reading of document 01 and card 1 over them. Nothing here is shared with the code under test: a sample is a
 // table of its own, its log is written from that table (module `log`), and the first legal order is found by going through all permutations
 // (module `orders`). The contracts say nothing; the functions are proved safe and ending.
 pub mod log;
 pub mod orders;
 
 // A history of `size` transactions, at most 32, over up to 4 keys. Place 4 * t + k of `code` says what transaction t does with key k: 0 nothing, 1 it reads,
-// 2 it writes, 3 it reads and then writes; the same place of `names` is what the read names.
+// 2 it writes, 3 it reads and then writes, 4 it writes and reads back, 5 it reads, writes and reads back; the same place of `names` is what the read before
+// the write, or of a key not written, names. A read-back names its own transaction.
 pub struct Sample {
     pub size: u8,
     pub cabinet: [u8; 32],
@@ -98,7 +99,7 @@ fn empty(seed: u64, size: u8) -> Sample {
     }
 }
 
-// A sample of a kind with so many transactions and keys, and reads that name anything.
+// A sample of a kind with so many transactions and keys, no read-backs, and reads that name anything.
 fn scattered(kind: u8, size: u8, keys: u8, seed: u64) -> Sample {
     let mut s = empty(at(seed, 202), size);
     for p in 0..128usize {
@@ -106,6 +107,35 @@ fn scattered(kind: u8, size: u8, keys: u8, seed: u64) -> Sample {
         s = filled;
     }
     s
+}
+
+// Whether what is written at place p is to be read back: one write of three.
+fn drawn(s: Sample, seed: u64, p: usize) -> bool {
+    let i = p % 128;
+    s.code[i] > 1 && below(at(seed, 400 + i as u64), 3) == 0
+}
+
+// The sample where what is written at place p is read back.
+fn with_back(s: Sample, p: usize) -> Sample {
+    let mut out = s;
+    let i = p % 128;
+    out.code[i] = s.code[i] % 4 + 2;
+    out
+}
+
+// The sample with read-backs, as long as the log has room for them. They are drawn apart from all else, so that they alone set the sample apart from the
+// one without.
+fn backed(s: Sample, seed: u64) -> Sample {
+    let mut out = s;
+    let mut room = log::room(s);
+    for p in 0..128usize {
+        if room > 0 && drawn(out, seed, p) {
+            let next = with_back(out, p);
+            out = next;
+            room -= 1;
+        }
+    }
+    out
 }
 
 // The sample with the read at place p naming another.
@@ -116,9 +146,9 @@ fn with_name(s: Sample, p: usize, name: u16) -> Sample {
 }
 
 // A sample of a kind from a random number, of at most 32 transactions: of the kinds but ANY, what a run in some order would have read, with one
-// read changed in DISTURBED.
+// read changed in DISTURBED; a read-back never is.
 pub fn history(kind: u8, size: u8, keys: u8, seed: u64) -> Sample {
-    let s = scattered(kind, size, keys, seed);
+    let s = backed(scattered(kind, size, keys, seed), seed);
     if kind == ANY {
         return s;
     }

@@ -27,17 +27,19 @@ fn with_pair(l: Bytes, n: u16) -> Bytes {
 
 // How many operations a code stands for.
 fn operations(code: u8) -> u16
-    ensures { λ r. ⌜ r ≤ 2 ⌝ }
+    ensures { λ r. ⌜ r ≤ 3 ⌝ }
 {
-    if code == 0 {
-        return 0;
+    match code {
+        0 => 0,
+        1 | 2 => 1,
+        3 | 4 => 2,
+        _ => 3,
     }
-    if code > 2 { 2 } else { 1 }
 }
 
 // How many operations stand at place p, if it is one of those from `from` to `to`.
 fn part(s: Sample, from: usize, to: usize, p: usize) -> u16
-    ensures { λ r. ⌜ r ≤ 2 ⌝ }
+    ensures { λ r. ⌜ r ≤ 3 ⌝ }
 {
     if p < from {
         return 0;
@@ -57,6 +59,12 @@ fn count(s: Sample, from: usize, to: usize) -> u16 {
     n
 }
 
+// How many operations more a log can have.
+pub fn room(s: Sample) -> u16 {
+    let n = count(s, 0, 128);
+    if n < 256 { 256 - n } else { 0 }
+}
+
 // The log with the entry of transaction t.
 fn with_entry(l: Bytes, s: Sample, t: usize) -> Bytes {
     let t = t % 32;
@@ -72,7 +80,21 @@ fn with_body(l: Bytes, kind: u8, key: u8, argument: u16) -> Bytes {
     with_pair(b, argument)
 }
 
-// The log with the bodies of place p.
+// Whether transaction t reads back behind all its other operations; otherwise each read-back stands right behind the write.
+fn late(t: usize) -> bool {
+    t % 2 == 1
+}
+
+// The log with the read-back of place p, if there is one.
+fn with_back(l: Bytes, s: Sample, p: usize) -> Bytes {
+    let p = p % 128;
+    if s.code[p] < 4 {
+        return l;
+    }
+    with_body(l, 0, (p % 4) as u8, (p / 4) as u16)
+}
+
+// The log with the read and the write of place p.
 fn with_bodies(l: Bytes, s: Sample, p: usize) -> Bytes {
     let p = p % 128;
     let code = s.code[p];
@@ -87,6 +109,17 @@ fn with_bodies(l: Bytes, s: Sample, p: usize) -> Bytes {
         out = written;
     }
     out
+}
+
+// The log with step q: each transaction has four for its keys, then four for the read-backs that come late.
+fn with_step(l: Bytes, s: Sample, q: usize) -> Bytes {
+    let t = q / 8 % 32;
+    let p = 4 * t + q % 4;
+    if q % 8 > 3 {
+        return if late(t) { with_back(l, s, p) } else { l };
+    }
+    let out = with_bodies(l, s, p);
+    if late(t) { out } else { with_back(out, s, p) }
 }
 
 // The log with all entries.
@@ -104,8 +137,8 @@ fn with_entries(l: Bytes, s: Sample) -> Bytes {
 // The log with all bodies.
 fn with_all(l: Bytes, s: Sample) -> Bytes {
     let mut out = l;
-    for p in 0..128usize {
-        let next = with_bodies(out, s, p);
+    for q in 0..256usize {
+        let next = with_step(out, s, q);
         out = next;
     }
     out

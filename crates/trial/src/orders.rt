@@ -75,7 +75,8 @@ pub fn shuffled(n: u8, seed: u64) -> [u8; 32] {
     out
 }
 
-// One key of one transaction in a run: the read looks at what was there, then the write is stored. With `set` the read is made to name it.
+// One key of one transaction in a run: the read looks at what was there, then the write is stored. With `set` the read is made to name it. A read-back is
+// passed by: the write before it explains it.
 fn visit(r: Replay, t: usize, k: usize, set: bool) -> Replay {
     let mut out = r;
     let p = (4 * (t % 32) + k % 4) % 128;

@@ -22,6 +22,9 @@ part-log-start c = search needs
 part-log-end : tie.Need-part-log-end Inv-loop μ-loop
 part-log-end c = search needs
 
+counted-requires : tie.Need-counted-requires Inv-loop μ-loop
+counted-requires c κs = search needs
+
 loop-holds : tie.Need-loop-holds Inv-loop μ-loop
 loop-holds c = search needs
 
@@ -50,6 +53,7 @@ with-log-spec =
     sub-log
     part-log-start
     part-log-end
+    counted-requires
     loop-holds
     with-setting-requires
     add-s

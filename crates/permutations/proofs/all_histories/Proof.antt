@@ -16,8 +16,8 @@ abbrev μ-loop : tie.MeasureT-loop
 loop-holds : tie.Need-loop-holds Inv-loop μ-loop
 loop-holds c = search needs
 
-all-lists-requires : tie.Need-all-lists-requires Inv-loop μ-loop
-all-lists-requires c κs = search needs
+one-history-requires : tie.Need-one-history-requires Inv-loop μ-loop
+one-history-requires c κs = search needs
 
 add-h : tie.Need-add-h Inv-loop μ-loop
 add-h c = search needs
@@ -34,4 +34,4 @@ returns c = search needs
 pub all-histories-spec : {M : Type 1} → statement M
 all-histories-spec =
     tie.close
-    (tie.spec Inv-loop μ-loop loop-holds all-lists-requires add-h loop-less loop-again returns)
+    (tie.spec Inv-loop μ-loop loop-holds one-history-requires add-h loop-less loop-again returns)

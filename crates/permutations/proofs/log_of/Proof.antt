@@ -8,10 +8,10 @@ use Rattle.permutations.proofs.log_of.Statement.{statement}
 use Rattle.permutations.proofs.log_of.Tie as tie
 
 abbrev Inv-loop : tie.InvT-loop
-Inv-loop h out₀ i₀ out i = (i ≤ 52)
+Inv-loop h out₀ i₀ out i = (i ≤ 68)
 
 abbrev μ-loop : tie.MeasureT-loop
-μ-loop h out₀ i₀ out i = 52 - i
+μ-loop h out₀ i₀ out i = 68 - i
 
 loop-holds : tie.Need-loop-holds Inv-loop μ-loop
 loop-holds c = search needs

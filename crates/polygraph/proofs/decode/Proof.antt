@@ -5,7 +5,7 @@ use native.Mathlib.Omega.{arith}
 use mathlib.Core.Path.{_≡_}
 use Rattle.model.specs.Log.{transactionsIn}
 use Rattle.model.proofs.Loaded.{loaded}
-use Rattle.polygraph.proofs.Filling.{UpTo, up-start, up-next, up-end}
+use Rattle.polygraph.proofs.Filling.{UpTo, up-start, up-unmarked, up-next, up-end}
 use Rattle.polygraph.proofs.decode.Statement.{statement}
 use Rattle.polygraph.proofs.decode.Tie as tie
 
@@ -25,8 +25,13 @@ decode-transaction-requires : tie.Need-decode-transaction-requires Inv-loop μ-l
 decode-transaction-requires c κs =
     let s = c .before .before .before .before .before .before in
     let l = c .before .before .before .loop in
-    let below : l .t < transactionsIn (s .args .log .now) = omega arith in
-    (record { loads = s .pre .0; below = below }, omega arith, omega (arith, l .inv .3 .room, loaded (s .args .log .now) (s .pre .0) .starts (l .t) below), l .inv .3 .long)
+    let below : l .t < transactionsIn (s .args .log .now) = omega arith in (
+      record { loads = s .pre .0; below = below },
+      omega arith,
+      omega (arith, l .inv .3 .room, loaded (s .args .log .now) (s .pre .0) .starts (l .t) below),
+      l .inv .3 .long,
+      up-unmarked (s .args .log .now) (s .pre .0) (l .t) (l .writers) (l .reads) (l .count) below (l .inv .3),
+    )
 
 add-t : tie.Need-add-t Inv-loop μ-loop
 add-t c = search needs

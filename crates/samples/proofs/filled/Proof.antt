@@ -8,10 +8,10 @@ use Rattle.samples.proofs.filled.Statement.{statement}
 use Rattle.samples.proofs.filled.Tie as tie
 
 abbrev Inv-loop : tie.InvT-loop
-Inv-loop log out₀ i₀ out i = (i ≤ 1156)
+Inv-loop list out₀ i₀ out i = (i ≤ 1156)
 
 abbrev μ-loop : tie.MeasureT-loop
-μ-loop log out₀ i₀ out i = 1156 - i
+μ-loop list out₀ i₀ out i = 1156 - i
 
 loop-holds : tie.Need-loop-holds Inv-loop μ-loop
 loop-holds c = search needs

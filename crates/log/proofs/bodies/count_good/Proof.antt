@@ -1,28 +1,23 @@
 -- `log::bodies::count_good` meets its contract. Assumes nothing.
-use mathlib.Core.Path.{_≡_, refl, sym, _∙_}
+use mathlib.Core.Path.{refl, sym, _∙_}
 use native.Mathlib.Omega.{arith}
-use Prim.Native.Nat.{_≤_, _<_, _-_}
-use mathlib.Core.Logic.{⊎-elim}
-use Rattle.model.specs.Log.{operationsIn}
-use Rattle.log.specs.Tests.{GoodTo}
-use Rattle.log.proofs.Faults.{or-none}
+use Prim.Native.Nat.{_≤_, _-_}
 use Rattle.log.proofs.Flat.{Flat, flat-start, flat-begin, flat-next, flat-good, flat-body, flat-record}
 use borrow.Author.Needs.{needs}
 use Rattle.log.proofs.bodies.count_good.Statement.{statement}
 use Rattle.log.proofs.bodies.count_good.Tie as tie
 
 abbrev Inv-loop : tie.InvT-loop
-Inv-loop log n count starts reads₀ writes₀ bad₀ good₀ i₀ reads writes bad good i =
-    (i ≤ count) × (good ≤ i) × GoodTo log n good × (bad ≡ 0 → (good ≡ i) × Flat log n i i reads writes)
+Inv-loop log n count starts reads₀ writes₀ i₀ reads writes i = (i ≤ count) × Flat log n i i reads writes
 
 abbrev μ-loop : tie.MeasureT-loop
-μ-loop log n count starts reads₀ writes₀ bad₀ good₀ i₀ reads writes bad good i = count - i
+μ-loop log n count starts reads₀ writes₀ i₀ reads writes i = count - i
 
 begins-requires : tie.Need-begins-requires Inv-loop μ-loop
 begins-requires c κs = search needs
 
 loop-holds : tie.Need-loop-holds Inv-loop μ-loop
-loop-holds c = (omega arith, omega arith, flat-good _ _ _ _ _ _ (flat-start _ _), λ z. (refl, flat-start _ _))
+loop-holds c = (omega arith, flat-start _ _)
 
 body-of-requires : tie.Need-body-of-requires Inv-loop μ-loop
 body-of-requires c κs = let s = c .before .before .before .before in flat-body (s .args .log .now) (s .args .n) (c .before .loop .i) (s .pre .0) (omega (arith, s .pre .1))
@@ -31,13 +26,13 @@ cast-key : tie.Need-cast-key Inv-loop μ-loop
 cast-key c = search needs
 
 array-read-kept : tie.Need-array-read-kept Inv-loop μ-loop
-array-read-kept c = omega (arith, c .before .before .before .before .before .pre .0 .many, c .before .before .before .before .before .pre .1)
+array-read-kept c = omega (arith, c .before .before .before .before .before .before .pre .0 .many, c .before .before .before .before .before .before .pre .1)
 
 kept-requires : tie.Need-kept-requires Inv-loop μ-loop
 kept-requires c κs = search needs
 
 array-read-kept-2 : tie.Need-array-read-kept-2 Inv-loop μ-loop
-array-read-kept-2 c = omega (arith, c .before .before .before .before .before .before .pre .0 .many, c .before .before .before .before .before .before .pre .1)
+array-read-kept-2 c = omega (arith, c .before .before .before .before .before .before .before .pre .0 .many, c .before .before .before .before .before .before .before .pre .1)
 
 kept-requires-2 : tie.Need-kept-requires-2 Inv-loop μ-loop
 kept-requires-2 c κs = search needs
@@ -45,10 +40,8 @@ kept-requires-2 c κs = search needs
 faults-requires : tie.Need-faults-requires Inv-loop μ-loop
 faults-requires c κs = search needs
 
-add-good : tie.Need-add-good Inv-loop μ-loop
-add-good c =
-    let l = c .before .before .before .before .before .before .before .loop in
-    ⊎-elim (λ w. record { fits = omega (arith, w .1, l .inv .1) }) (λ w. record { fits = omega (arith, w .1, l .inv .1) }) (c .before .if1 .came)
+returns : tie.Need-returns Inv-loop μ-loop
+returns c = flat-good _ _ _ _ _ _ (c .before .before .before .before .before .before .before .loop .inv .1)
 
 mark-requires : tie.Need-mark-requires Inv-loop μ-loop
 mark-requires c κs = search needs
@@ -68,21 +61,15 @@ loop-again c =
     let b = s .args .log .now in
     let n = s .args .n in
     let l = c .before .before .before .before .before .before .before .before .before .loop in
-    let below : l .i < operationsIn b = omega (arith, s .pre .1) in
-    ⊎-elim
-    (λ w.
-    let none = or-none (l .bad) (c .before .before .before .before .faults .result) (w .0 .taken) in
-    let all = l .inv .3 (none .0) in
-    let next =
-    flat-next b n (s .pre .0) (l .i) _ _
-    (flat-begin b n (s .pre .0) (l .i) (l .reads) (l .writes) (all .1) _ _ _ (c .before .before .before .before .before .before .before .before .before .before .begins .ensures .each (l .i) (omega (arith, s .pre .0 .many))) (c .before .before .before .before .before .before .kept .ensures) (c .before .before .before .before .before .kept2 .ensures))
-    _ (c .before .before .before .before .before .before .before .body-of .ensures .is ∙ flat-record b n (l .i) (s .pre .0) below) (sym (c .before .before .before .before .faults .ensures) ∙ none .1) _ _ _ refl (c .before .mark .ensures) (c .mark2 .ensures) in
-    (omega arith, omega (arith, w .1, all .0), λ t k e. flat-good b n _ _ _ _ next t k (omega (arith, e, w .1, all .0)), λ z. (omega (arith, w .1, all .0), next)))
-    (λ w. (omega arith, omega (arith, w .1, l .inv .1), λ t k e. l .inv .2 t k (omega (arith, e, w .1)), λ z. absurd (w .0 .left z)))
-    (c .before .before .before .if1 .came)
+    let begun =
+    flat-begin b n (s .pre .0) (l .i) (l .reads) (l .writes) (l .inv .1) _ _ _ (c .before .before .before .before .before .before .before .before .before .before .begins .ensures .each (l .i) (omega (arith, s .pre .0 .many, s .pre .1))) (c .before .before .before .before .before .kept .ensures) (c .before .before .before .before .kept2 .ensures) in (
+      omega arith,
+      flat-next b n (s .pre .0) (l .i) _ _ begun _ (c .before .before .before .before .before .before .before .body-of .ensures .is ∙ flat-record b n (l .i) (s .pre .0) (omega (arith, s .pre .1)))
+          (sym (c .before .before .before .faults .ensures) ∙ c .before .before .if1 .left) _ _ _ refl (c .before .mark .ensures) (c .mark2 .ensures),
+    )
 
-returns : tie.Need-returns Inv-loop μ-loop
-returns c = c .before .loop .inv .2
+returns-2 : tie.Need-returns-2 Inv-loop μ-loop
+returns-2 c = λ t k e. flat-good _ _ _ _ _ _ (c .before .loop .inv .1) t k (omega (arith, e))
 
 pub count-good-spec : {M : Type 1} → statement M
 count-good-spec =
@@ -99,10 +86,10 @@ count-good-spec =
     array-read-kept-2
     kept-requires-2
     faults-requires
-    add-good
+    returns
     mark-requires
     mark-requires-2
     add-i
     loop-less
     loop-again
-    returns)
+    returns-2)

@@ -11,10 +11,10 @@ use Rattle.log.proofs.bodies.of_transaction.Statement.{statement}
 use Rattle.log.proofs.bodies.of_transaction.Tie as tie
 
 abbrev Inv-loop : tie.InvT-loop
-Inv-loop log n good t count reads₀ writes₀ m₀ reads writes m = (m ≤ count) × Sofar log (startAt log t) m reads writes
+Inv-loop log n good t count reads₀ writes₀ backs₀ m₀ reads writes backs m = (m ≤ count) × Sofar log t (startAt log t) m reads writes backs
 
 abbrev μ-loop : tie.MeasureT-loop
-μ-loop log n good t count reads₀ writes₀ m₀ reads writes m = count - m
+μ-loop log n good t count reads₀ writes₀ backs₀ m₀ reads writes backs m = count - m
 
 entry-of-requires : tie.Need-entry-of-requires Inv-loop μ-loop
 entry-of-requires c κs = placed-entry _ (c .before .args .n) (c .before .pre .0) (c .before .args .t) (c .before .pre .2)
@@ -38,7 +38,7 @@ returns c =
     sym (s .pre .1 (s .args .t) (s .pre .2) (omega (arith, c .if1 .taken, start, count)))
 
 loop-holds : tie.Need-loop-holds Inv-loop μ-loop
-loop-holds c = (omega arith, sofar-start _ _)
+loop-holds c = (omega arith, sofar-start _ _ _)
 
 body-of-requires : tie.Need-body-of-requires Inv-loop μ-loop
 body-of-requires c κs =
@@ -55,22 +55,31 @@ returns-2 c =
     let k : c .before .before .before .before .before .before .before .before .entry-of .result .count ≡ countAt (c .before .before .before .before .before .before .before .before .before .before .args .log .now) (c .before .before .before .before .before .before .before .before .before .before .args .t) = ap (λ (e : Entry). e .count) (c .before .before .before .before .before .before .before .before .entry-of .ensures) in
     let l = c .before .before .before .before .loop in
     let a = c .before .before .before .before .before .before .before .before .before .before .args in
-    sofar-stop (a .log .now) (startAt (a .log .now) (a .t)) (l .m) (a .n) (l .reads) (l .writes) _ _ (c .before .before .before .before .before .before .before .before .before .before .pre .0 .count) (l .inv .1) (c .before .before .body-of .ensures .is) (c .before .number .ensures) _ (omega (arith, k)) (c .if2 .taken)
+    sofar-stop (a .log .now) (a .t) (startAt (a .log .now) (a .t)) (l .m) (a .n) (l .reads) (l .writes) (l .backs) _ _ (c .before .before .before .before .before .before .before .before .before .before .pre .0 .count) (l .inv .1) (c .before .before .body-of .ensures .is) (c .before .number .ensures) _ (omega (arith, k)) (c .if2 .taken)
 
 cast-key : tie.Need-cast-key Inv-loop μ-loop
 cast-key c = search needs
 
+mark-back-requires : tie.Need-mark-back-requires Inv-loop μ-loop
+mark-back-requires c κs =
+    let l = c .before .before .before .before .before .loop in
+    let s = c .before .before .before .before .before .before .before .before .before .before .before in
+    let a = s .args in
+    sofar-key (a .log .now) (a .t) (startAt (a .log .now) (a .t)) (l .m) (a .n) (l .reads) (l .writes) (l .backs) _ _ (s .pre .0 .count) (l .inv .1) (c .before .before .before .body-of .ensures .is) (c .before .before .number .ensures) (c .before .if2 .left)
+
 mark-requires : tie.Need-mark-requires Inv-loop μ-loop
 mark-requires c κs =
-    let l = c .before .before .before .before .before .loop in
-    let a = c .before .before .before .before .before .before .before .before .before .before .before .args in
-    sofar-key (a .log .now) (startAt (a .log .now) (a .t)) (l .m) (a .n) (l .reads) (l .writes) _ _ (c .before .before .before .before .before .before .before .before .before .before .before .pre .0 .count) (l .inv .1) (c .before .before .before .body-of .ensures .is) (c .before .before .number .ensures) (c .before .if2 .left)
+    let l = c .before .before .before .before .before .before .loop in
+    let s = c .before .before .before .before .before .before .before .before .before .before .before .before in
+    let a = s .args in
+    sofar-key (a .log .now) (a .t) (startAt (a .log .now) (a .t)) (l .m) (a .n) (l .reads) (l .writes) (l .backs) _ _ (s .pre .0 .count) (l .inv .1) (c .before .before .before .before .body-of .ensures .is) (c .before .before .before .number .ensures) (c .before .before .if2 .left)
 
 mark-requires-2 : tie.Need-mark-requires-2 Inv-loop μ-loop
 mark-requires-2 c κs =
-    let l = c .before .before .before .before .before .before .loop in
-    let a = c .before .before .before .before .before .before .before .before .before .before .before .before .args in
-    sofar-key (a .log .now) (startAt (a .log .now) (a .t)) (l .m) (a .n) (l .reads) (l .writes) _ _ (c .before .before .before .before .before .before .before .before .before .before .before .before .pre .0 .count) (l .inv .1) (c .before .before .before .before .body-of .ensures .is) (c .before .before .before .number .ensures) (c .before .before .if2 .left)
+    let l = c .before .before .before .before .before .before .before .loop in
+    let s = c .before .before .before .before .before .before .before .before .before .before .before .before .before in
+    let a = s .args in
+    sofar-key (a .log .now) (a .t) (startAt (a .log .now) (a .t)) (l .m) (a .n) (l .reads) (l .writes) (l .backs) _ _ (s .pre .0 .count) (l .inv .1) (c .before .before .before .before .before .body-of .ensures .is) (c .before .before .before .before .number .ensures) (c .before .before .before .if2 .left)
 
 add-m : tie.Need-add-m Inv-loop μ-loop
 add-m c = search needs
@@ -80,9 +89,10 @@ loop-less c = search needs
 
 loop-again : tie.Need-loop-again Inv-loop μ-loop
 loop-again c =
-    let l = c .before .before .before .before .before .before .before .loop in
-    let a = c .before .before .before .before .before .before .before .before .before .before .before .before .before .args in
-    (omega arith, sofar-next (a .log .now) (startAt (a .log .now) (a .t)) (l .m) (a .n) (l .reads) (l .writes) _ _ (c .before .before .before .before .before .before .before .before .before .before .before .before .before .pre .0 .count) (l .inv .1) (c .before .before .before .before .before .body-of .ensures .is) (c .before .before .before .before .number .ensures) (c .before .before .before .if2 .left) _ _ (c .before .mark .ensures) (c .mark2 .ensures))
+    let l = c .before .before .before .before .before .before .before .before .loop in
+    let s = c .before .before .before .before .before .before .before .before .before .before .before .before .before .before in
+    let a = s .args in
+    (omega arith, sofar-next (a .log .now) (a .t) (startAt (a .log .now) (a .t)) (l .m) (a .n) (l .reads) (l .writes) (l .backs) _ _ (s .pre .0 .count) (l .inv .1) (c .before .before .before .before .before .before .body-of .ensures .is) (c .before .before .before .before .before .number .ensures) (c .before .before .before .before .if2 .left) _ _ _ (c .before .before .mark-back .ensures) (c .before .mark .ensures) (c .mark2 .ensures))
 
 returns-3 : tie.Need-returns-3 Inv-loop μ-loop
 unfolding bodiesNumber
@@ -91,7 +101,7 @@ returns-3 c =
     let a = c .before .before .before .before .before .before .before .args in
     let k : c .before .before .before .before .before .entry-of .result .count ≡ countAt (a .log .now) (a .t) = ap (λ (e : Entry). e .count) (c .before .before .before .before .before .entry-of .ensures) in
     let end : l .m ≡ countAt (a .log .now) (a .t) = omega (arith, k) in
-    sym (l .inv .1 .none) ∙ ap (firstNumber (bodyNumber (a .log .now) (startAt (a .log .now) (a .t)))) end
+    sym (l .inv .1 .none) ∙ ap (firstNumber (bodyNumber (a .log .now) (a .t) (startAt (a .log .now) (a .t)))) end
 
 pub of-transaction-spec : {M : Type 1} → statement M
 of-transaction-spec =
@@ -109,6 +119,7 @@ of-transaction-spec =
     number-requires
     returns-2
     cast-key
+    mark-back-requires
     mark-requires
     mark-requires-2
     add-m

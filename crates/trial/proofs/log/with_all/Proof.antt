@@ -5,19 +5,19 @@ use Rattle.trial.proofs.log.with_all.Statement.{statement}
 use Rattle.trial.proofs.log.with_all.Tie as tie
 
 abbrev Inv-loop : tie.InvT-loop
-Inv-loop s out₀ p₀ out p = (p ≤ 128)
+Inv-loop s out₀ q₀ out q = (q ≤ 256)
 
 abbrev μ-loop : tie.MeasureT-loop
-μ-loop s out₀ p₀ out p = 128 - p
+μ-loop s out₀ q₀ out q = 256 - q
 
 loop-holds : tie.Need-loop-holds Inv-loop μ-loop
 loop-holds c = search needs
 
-with-bodies-requires : tie.Need-with-bodies-requires Inv-loop μ-loop
-with-bodies-requires c κs = search needs
+with-step-requires : tie.Need-with-step-requires Inv-loop μ-loop
+with-step-requires c κs = search needs
 
-add-p : tie.Need-add-p Inv-loop μ-loop
-add-p c = search needs
+add-q : tie.Need-add-q Inv-loop μ-loop
+add-q c = search needs
 
 loop-less : tie.Need-loop-less Inv-loop μ-loop
 loop-less c = search needs
@@ -31,4 +31,4 @@ returns c = search needs
 pub with-all-spec : {M : Type 1} → statement M
 with-all-spec =
     tie.close
-    (tie.spec Inv-loop μ-loop loop-holds with-bodies-requires add-p loop-less loop-again returns)
+    (tie.spec Inv-loop μ-loop loop-holds with-step-requires add-q loop-less loop-again returns)
