@@ -1,7 +1,7 @@
 -- The demands on the definitions, in the demands' own words. `b` is a list of bytes that Load takes, `h` the history that it holds, `e` the
 -- encoding and `pruning` the second number of the setting. Each theorem cites the law that proves it; nothing is assumed but that Load takes b,
--- and of `load-takes-every-well-formed` what it says.
--- What the calls do is held to these definitions by their contracts (crate `checker`).
+-- and what `load-takes-every-well-formed` and the theorems on the log of a history, which are of any h, say.
+-- What the calls do is held to these definitions by their contracts (crates `checker` and `writer`).
 use Prim.Native.Nat.{ℕ, _≤_, _<_}
 use native.Mathlib.Omega.{arith}
 use mathlib.Core.Path.{_≡_, refl, subst}
@@ -13,10 +13,13 @@ use lib.ListN.{length}
 use Rattle.model.specs.Lists.{All}
 use Rattle.model.specs.History.{History, start, size, operationsOf, isReadBack, readBacks, wellFormed, writes, reads, everyReadExplained, everyReadNamesWhatItSees, isOrder, legal, finalTable, withoutReadBacks}
 use Rattle.model.specs.Log.{startAt, backAt, loadNumber, historyOf, LaidOut}
+use Rattle.model.specs.Writing.{logOf, hasLog}
 use Rattle.model.specs.Polygraph.{goodRead, edge, successor, Linked, isHead, tail, has, reach, pass, rows, unpruned, polygraph, Way, AcyclicSelection, Respects}
 use Rattle.model.specs.Search.{firstLegal, LexLess}
 use Rattle.model.proofs.Loaded.{Bytes, operationOf, back-is, history-size, keys-good, well-formed, loadable-log}
 use Rattle.model.proofs.Takes.{takes, laid-out}
+use Rattle.model.proofs.Writing.{loads-back, same-bytes}
+use Rattle.model.proofs.Logs.{has-log-out, has-log-of, has-log-in, good-narrow, log-good}
 use Rattle.model.proofs.Twins.{goods-same, legal-same, first-same, polygraph-same, table-same, bare-alike}
 use Rattle.model.proofs.ReadBacks.{behind, backs-own, explained-sees}
 use Rattle.model.proofs.Legal.{reads-small, bad-in, good-other, legal-out}
@@ -39,6 +42,31 @@ load-takes-only-laid-out b taken = laid-out b taken
 -- Load takes every log that is laid out so and holds a well-formed history: together with the two before, these and no others.
 pub load-takes-every-well-formed : (b : List ℕ) → LaidOut b → T (wellFormed (historyOf b)) → loadNumber b ≡ 0
 load-takes-every-well-formed b laid good = takes b laid good
+
+-- ---- the log of a history
+
+-- What would be written of any history reads back as it, also where it is no list of bytes ..
+pub a-history-comes-back-from-its-log : (h : History) → historyOf (logOf h) ≡ h
+a-history-comes-back-from-its-log h = loads-back h
+
+-- .. and a log that Load takes, read and written again, is the same bytes.
+pub a-log-comes-back-from-its-history : (b : List ℕ) → Bytes b → loadNumber b ≡ 0 → logOf (historyOf b) ≡ b
+a-log-comes-back-from-its-history b bytes taken = same-bytes b bytes taken
+
+-- A history has a log exactly where a log that Load takes holds it.
+pub has-a-log-exactly-where-one-holds-it : (h : History) → T (hasLog h) ↔ ((b : List ℕ) × (Bytes b × ((loadNumber b ≡ 0) × (historyOf b ≡ h))))
+has-a-log-exactly-where-one-holds-it h = (
+  (λ t. let log = has-log-out h t in (logOf h, (log .0, (log .1, loads-back h)))),
+  λ x. subst (λ g. T (hasLog g)) (x .1 .1 .1) (has-log-of (x .0) (x .1 .0) (x .1 .1 .0)),
+)
+
+-- These are the well-formed histories ..
+pub has-a-log-exactly-when-well-formed : (h : History) → T (hasLog h) ↔ T (wellFormed h)
+has-a-log-exactly-when-well-formed h = (log-good h, has-log-in h)
+
+-- .. of which no transaction has more operations than a byte can count.
+pub well-formed-counts-have-their-byte : (h : History) → T (wellFormed h) → (t : ℕ) → t < size h → length (operationsOf h t) < 256
+well-formed-counts-have-their-byte h good t l = good-narrow h good t l
 
 -- ---- read-backs
 

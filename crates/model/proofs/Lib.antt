@@ -20,4 +20,7 @@ pub mod ReadBacks
 pub mod Loaded
 pub mod Twins
 pub mod Takes
+pub mod Writing
+pub mod Bounds
+pub mod Logs
 pub mod Demands

@@ -16,7 +16,7 @@ use Rattle.model.proofs.Loaded.{or-else-none, none-found, neither, load
 -- ---- what holds of the operations that are kept by their place
 
 -- each may stand after all that stand before it
-before-each : (earlier os : List Operation) → T (keysOnce earlier os) → All (λ o. T (all (λ q. mayPrecede q o) earlier)) os
+pub before-each : (earlier os : List Operation) → T (keysOnce earlier os) → All (λ o. T (all (λ q. mayPrecede q o) earlier)) os
 unfolding keysOnce
 before-each earlier [] t = tt
 before-each earlier (o ∷ os) t = (

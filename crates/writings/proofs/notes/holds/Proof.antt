@@ -1,0 +1,46 @@
+-- `writings::notes::holds` is safe and ends. Assumes nothing.
+use Prim.Native.Nat.{_≤_, _-_}
+use borrow.Author.Needs.{needs}
+use Rattle.writings.proofs.notes.holds.Statement.{statement}
+use Rattle.writings.proofs.notes.holds.Tie as tie
+
+abbrev Inv-loop : tie.InvT-loop
+Inv-loop bytes log length all₀ i₀ all i = i ≤ 1160
+
+abbrev μ-loop : tie.MeasureT-loop
+μ-loop bytes log length all₀ i₀ all i = 1160 - i
+
+loop-holds : tie.Need-loop-holds Inv-loop μ-loop
+loop-holds c = search needs
+
+at-requires : tie.Need-at-requires Inv-loop μ-loop
+at-requires c κs = search needs
+
+at-requires-2 : tie.Need-at-requires-2 Inv-loop μ-loop
+at-requires-2 c κs = search needs
+
+add-i : tie.Need-add-i Inv-loop μ-loop
+add-i c = search needs
+
+loop-less : tie.Need-loop-less Inv-loop μ-loop
+loop-less c = search needs
+
+loop-again : tie.Need-loop-again Inv-loop μ-loop
+loop-again c = search needs
+
+returns : tie.Need-returns Inv-loop μ-loop
+returns c = search needs
+
+pub holds-spec : {M : Type 1} → statement M
+holds-spec =
+    tie.close
+    (tie.spec
+    Inv-loop
+    μ-loop
+    loop-holds
+    at-requires
+    at-requires-2
+    add-i
+    loop-less
+    loop-again
+    returns)
