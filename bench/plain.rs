@@ -1,4 +1,4 @@
-//! Document 01 and card 1 taken word by word, with no thought for speed: what the other programs are compared with.
+//! Document 01 and cards 1 and 3 taken word by word, with no thought for speed: what the other programs are compared with.
 
 pub const START: usize = 65535;
 
@@ -42,8 +42,9 @@ pub fn number(log: &[u8]) -> u32 {
     if t_count > 32 || n_count > 256 {
         return 2;
     }
-    if log.len() != 4 + 4 * t_count + 4 * n_count {
-        return 3;
+    let said = 4 + 4 * t_count + 4 * n_count;
+    if log.len() != said {
+        return if log.len() < said { 3 } else { 35 };
     }
     let mut owner = Vec::new();
     for t in 0..t_count {
@@ -74,7 +75,7 @@ pub fn number(log: &[u8]) -> u32 {
             return 9;
         }
         if (0..i).any(|j| alike(i, j) && body(j)[0] == kind && (kind == 1 || behind(j) == behind(i))) {
-            return 10;
+            return if kind == 0 { 10 } else { 34 };
         }
         if kind == 0 && behind(i) && argument != owner[i] {
             return 11;

@@ -1,4 +1,4 @@
-//! Are the programs that the checker is held against right? Against all permutations, document 01's histories, and the words of document 01 and card 1.
+//! Are the programs that the checker is held against right? Against all permutations, document 01's histories, and the words of document 01 and cards 1 and 3.
 
 use crate::tuned::Tuned;
 use crate::windows::{self, Dice, Kind, KINDS};
@@ -127,7 +127,9 @@ fn returns(tuned: &mut Tuned) {
 fn numbers(tuned: &mut Tuned, backs: u64) {
     let mut dice = Dice::new(3);
     let mut back = Dice::new(backs);
-    let mut seen = [0; 12];
+    // Load's numbers, in the order of its tests
+    let all = [1, 2, 3, 35, 4, 5, 6, 7, 8, 9, 10, 34, 11];
+    let mut seen = [0; 36];
     let many = 100_000;
     for i in 0..many {
         let kind = KINDS[i % KINDS.len()].0;
@@ -165,7 +167,8 @@ fn numbers(tuned: &mut Tuned, backs: u64) {
         }
     }
     let with = if backs == 0 { "" } else { " with read-backs and" };
-    println!("{many} logs{with} with changed bytes: as document 01 numbers them; taken {}, refused by number 1 to 11: {:?}", seen[0], &seen[1..]);
+    let counts: Vec<String> = all.iter().map(|&n| format!("{n}: {}", seen[n])).collect();
+    println!("{many} logs{with} with changed bytes: as the documents number them; taken {}, refused with {}", seen[0], counts.join(", "));
 }
 
 /// The library's calls on full windows, every second with read-backs: what they refuse besides a log, what they leave, and what check says of orders with

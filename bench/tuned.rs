@@ -249,7 +249,7 @@ fn refusal(entries: &[u8], bodies: &[u8]) -> u32 {
                 (_, false) => &mut has_read,
             };
             if *has >> key & 1 == 1 {
-                return 10;
+                return if kind == 0 { 10 } else { 34 };
             }
             *has |= 1 << key;
             if back && argument != t {
@@ -294,8 +294,9 @@ impl Tuned {
         if t_count > 32 || n_count > 256 {
             return 2;
         }
-        if log.len() != 4 + 4 * t_count + 4 * n_count {
-            return 3;
+        let said = 4 + 4 * t_count + 4 * n_count;
+        if log.len() != said {
+            return if log.len() < said { 3 } else { 35 };
         }
         let (entries, bodies) = log[4..].split_at(4 * t_count);
         let mut start = 0;

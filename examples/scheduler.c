@@ -11,7 +11,7 @@
 
 int main(int argc, char **argv)
 {
-    uint8_t log[1157]; /* one byte more than the longest log: what is longer is refused by its length */
+    uint8_t log[1157]; /* one byte more than the longest log: what is longer is refused with 2 or 35 */
     uint8_t order[32], table[64];
     FILE *file = argc < 2 || strcmp(argv[1], "-") == 0 ? stdin : fopen(argv[1], "rb");
     if (file == NULL) {

@@ -13,11 +13,32 @@
  *
  * In a transaction a key may be read, then written, then read back: a read after the write names its own transaction and is explained by that write.
  *
- * Numbers: 0 done; 1 to 11 the log is refused (docs/MANUAL.md, "All numbers", says what is wrong and where to look), among them
- * 10 a second write of a key in a transaction, or a second read of it on the same side of the write or of a key not written there, and
- * 11 a read after the transaction's write of the key that names anything but its own transaction;
- * 12 encoding over 2 or pruning over 1; 13 the order is not every number below T once; 14 more than 4,096 constraints before pruning;
- * 25 a buffer is too short; 255 no, as said below.
+ * Numbers: 0 done; 1 to 11, 34 and 35 the log is refused, as listed below; 12 encoding over 2 or pruning over 1; 13 the order is not every number below T once;
+ * 14 more than 4,096 constraints before pruning; 25 a buffer is too short; 255 no, as said below.
+ *
+ * The numbers of a refused log, in the order of the tests: first the header and the length; then entry by entry, in each 4 before 5; then 6; then body by
+ * body, in each 7, 8, 9, then 10 or 34, then 11. The first test that fails gives its number, and all before it have passed. That doesn't say that the
+ * fields are right: T and N exchanged, or a wrong count, may show only in a later number. Nor does the number say which entry t or body i it is, both
+ * counted from 0: it is the first, from the front, of which the line is true. Transaction t has the bodies from its start on, as many as its count.
+ * A field of two bytes has the low byte first. docs/MANUAL.md, "All numbers", says what to mend.
+ *
+ *   number  what is wrong                                                     which byte to look at
+ *    1      fewer than 4 bytes                                                the length
+ *    2      T over 32, or N over 256                                          0-1 (T), 2-3 (N)
+ *    3      shorter than T and N say: fewer than 4 + 4T + 4N bytes            the last one; 0-3 (T and N)
+ *   35      longer than T and N say: more than 4 + 4T + 4N bytes              4 + 4T + 4N, the first too many; 0-3 (T and N)
+ *    4      a cabinet over 15                                                 4 + 4t
+ *    5      a start that is not the sum of the counts before it               6 + 4t and 7 + 4t; the counts before it, 5, 9, 13 ..
+ *    6      counts that don't sum to N                                        5, 9, 13 .. (the counts); 2-3 (N)
+ *    7      a kind other than 0 (a read) and 1 (a write)                      4 + 4T + 4i
+ *    8      a key over 31                                                     5 + 4T + 4i
+ *    9      a read that names T or more, and not 65535                        6 + 4T + 4i and 7 + 4T + 4i
+ *   10      a second read of a key in a transaction, on the same side of      5 + 4T + 4i, the key; an earlier read of the
+ *           its write there, or where it is not written there                 transaction, on that side, has the same
+ *   34      a second write of a key in a transaction                          5 + 4T + 4i, the key; an earlier write of the
+ *                                                                             transaction has the same
+ *   11      a read after the transaction's own write of the key that          6 + 4T + 4i and 7 + 4T + 4i; an earlier write
+ *           names anything but that transaction                               of the transaction has its key, 5 + 4T + 4i
  */
 #ifndef BEACONCRUMB_H
 #define BEACONCRUMB_H
@@ -34,8 +55,8 @@ extern "C" {
  * Takes the log, an encoding (0 plain, 1 joined, 2 chained) and pruning (0 or 1): where they are taken they change the time and
  * never the answer.
  * Gives 0 and writes the order, T numbers of one byte, and the table, 32 values by key of two bytes, low byte first.
- * Gives 255 where no legal order exists, and 1 to 12, 14 or 25 (an order shorter than T bytes, a table shorter than 64) where it refuses: it tests
- * 1 to 11, then 12, 14, 255, 25. So a short buffer is refused only where there is an order to write.
+ * Gives 255 where no legal order exists, and a number of a refused log, 12, 14 or 25 (an order shorter than T bytes, a table shorter than 64) where it
+ * refuses: it tests the log, then 12, 14, 255, 25. So a short buffer is refused only where there is an order to write.
  * Unless it gives 0 nothing is written; bytes behind the T and behind the 64 are never written.
  */
 uint32_t beaconcrumb_decide(const uint8_t *log, size_t log_len, uint8_t encoding, uint8_t pruning,
@@ -46,15 +67,15 @@ uint32_t beaconcrumb_decide(const uint8_t *log, size_t log_len, uint8_t encoding
  * Gives 0 and writes, low bytes first: the count of constraints left (2 bytes); the 32 row words (4 bytes each; bit v of word u is the edge
  * from u to v); and for each constraint left, in list order, 10 bytes: side A's sources as a mask (4) and target (1), then side B's.
  * So out needs 130 bytes and 10 for each constraint left: 41,090 are always enough.
- * Gives 1 to 12, 14 or 25 (out is shorter than that) where it refuses, tested in that order. Unless it gives 0 nothing is written; bytes behind
- * are never written.
+ * Gives a number of a refused log, 12, 14 or 25 (out is shorter than that) where it refuses, tested in that order. Unless it gives 0 nothing is written;
+ * bytes behind are never written.
  */
 uint32_t beaconcrumb_encode(const uint8_t *log, size_t log_len, uint8_t encoding, uint8_t pruning,
                             uint8_t *out, size_t out_len);
 
 /*
  * Says whether an order, one byte for each transaction, is legal for a log: it keeps each cabinet's own order and explains every read.
- * Gives 1 to 11, then 13, where it refuses; else 0 where the order is legal and 255 where it is not. Writes nothing.
+ * Gives a number of a refused log, then 13, where it refuses; else 0 where the order is legal and 255 where it is not. Writes nothing.
  */
 uint32_t beaconcrumb_check(const uint8_t *log, size_t log_len, const uint8_t *order, size_t order_len);
 

@@ -12,7 +12,7 @@ use Rattle.checker.specs.Cases.{historyIn, stageOf, loadedCase}
 use Rattle.answers.specs.Stages.{isFresh, orderRefusal}
 use Rattle.answers.specs.Numbers.{replyOf, judgementOf}
 
--- Load tests 21, a case not fresh, then 1 to 11 in turn.
+-- Load tests 21, a case not fresh, then what `loadNumber` tests, in turn.
 unfoldable pub loadRefusal : Case → List ℕ → ℕ
 loadRefusal c b = cond (isFresh (stageOf c)) (loadNumber b) 21
 

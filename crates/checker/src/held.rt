@@ -31,7 +31,7 @@ pub(crate) fn is_fresh(c: Case) -> bool
     is_fresh_stage(stage)
 }
 
-// The number with which Load refuses, or 0: 21, then 1 to 11.
+// The number with which Load refuses, or 0: 21, then Load's number of the log.
 pub(crate) fn load_refusal(c: Case, log: &[u8]) -> u8
     ensures { λ r. ⌜ r ≡ loadRefusal c (now (log .entry)) ⌝ }
 {

@@ -260,6 +260,18 @@ fn judge_each() {
         b"Judge on a second read-back:",
         b"\x01\x00\x03\x00\x00\x03\x00\x00\x01\x00\x05\x00\x00\x00\x00\x00\x00\x00\x00\x00",
     );
+    judged(
+        b"Judge on a second write:",
+        b"\x01\x00\x02\x00\x00\x02\x00\x00\x01\x00\x05\x00\x01\x00\x05\x00",
+    );
+    judged(
+        b"Judge on a byte too few:",
+        b"\x01\x00\x01\x00\x00\x01\x00\x00\x01\x00\x05",
+    );
+    judged(
+        b"Judge on a byte too many:",
+        b"\x01\x00\x01\x00\x00\x01\x00\x00\x01\x00\x05\x00\x00",
+    );
     judged(b"Judge on A:", b"\x00\x00\x00\x00");
     judged(
         b"Judge on F:",

@@ -1,5 +1,5 @@
-// Read-backs: 9, 10 and 11 behind a write, and the largest logs that have them. Two or three operations of one key take the place of the first bodies of the
-// full log, those of key 0 in transaction 0, and of its last, those of key 31 in transaction 31.
+// Read-backs and what stands a second time: 9, 10, 34 and 11, and the largest logs with read-backs. Two to four operations of one key take the place of the first bodies of
+// the full log, as operations of transaction 0 on key 0, and of its last, as operations of transaction 31 on key 31.
 use checker::Case;
 use samples::ascending;
 use samples::check_first;
@@ -62,6 +62,14 @@ fn three(m: usize, t: u8, a: Op, b: Op, c: Op) -> u64 {
     load_first(Case::fresh(), with_op(second, m % 256 + 2, t, c), 1156)
 }
 
+// The same with four.
+fn four(m: usize, t: u8, a: Op, b: Op, c: Op, d: Op) -> u64 {
+    let first = with_op(full(), m, t, a);
+    let second = with_op(first, m % 256 + 1, t, b);
+    let third = with_op(second, m % 256 + 2, t, c);
+    load_first(Case::fresh(), with_op(third, m % 256 + 3, t, d), 1156)
+}
+
 // Two operations at bodies 0 and 1, and at bodies 254 and 255.
 fn show2(name: &[u8], a: Op, b: Op) {
     line2(name, two(0, 0, a, b), two(254, 31, a, b));
@@ -70,6 +78,11 @@ fn show2(name: &[u8], a: Op, b: Op) {
 // Three operations at bodies 0 to 2, and at bodies 253 to 255.
 fn show3(name: &[u8], a: Op, b: Op, c: Op) {
     line2(name, three(0, 0, a, b, c), three(253, 31, a, b, c));
+}
+
+// Four operations at bodies 0 to 3, and at bodies 252 to 255.
+fn show4(name: &[u8], a: Op, b: Op, c: Op, d: Op) {
+    line2(name, four(0, 0, a, b, c, d), four(252, 31, a, b, c, d));
 }
 
 // Behind a write, and where there is none.
@@ -174,10 +187,50 @@ fn seconds() {
     );
 }
 
+// A second read and a second write in one transaction: the first of the two has the number.
+fn both() {
+    show4(
+        b"second read before the write, then a second write:",
+        Op::Start,
+        Op::Start,
+        Op::Write,
+        Op::Write,
+    );
+    show4(
+        b"second read-back, then a second write:",
+        Op::Write,
+        Op::Own,
+        Op::Own,
+        Op::Write,
+    );
+    show4(
+        b"second write, then a second read-back:",
+        Op::Write,
+        Op::Own,
+        Op::Write,
+        Op::Own,
+    );
+    show4(
+        b"second write at once, then two read-backs:",
+        Op::Write,
+        Op::Write,
+        Op::Own,
+        Op::Own,
+    );
+    show4(
+        b"a read, the write, a read-back, a second write:",
+        Op::Start,
+        Op::Write,
+        Op::Own,
+        Op::Write,
+    );
+}
+
 pub fn numbers() {
     pairs();
     triples();
     seconds();
+    both();
 }
 
 // What Check says of the order 0 on the first 392 bytes.

@@ -21,7 +21,15 @@ use samples::with_byte;
 
 mod backs;
 
-// 1, 2 and 3: the header and the length.
+// The longest log's header with a byte more than it says: 1,157 bytes.
+fn longest_and_one() -> u64 {
+    let mut log = [0u8; 1157];
+    log[0] = 32;
+    log[3] = 1;
+    load_number(Case::fresh(), &log)
+}
+
+// 1, 2, 3 and 35: the header and the length.
 fn header() {
     let log = full();
     line1(
@@ -47,6 +55,21 @@ fn header() {
         b"a byte too few, one too many:",
         load_first(Case::fresh(), log, 1155),
         load_number(Case::fresh(), b"\x00\x00\x00\x00\x00"),
+    );
+    line2(
+        b"a body too few, one too many:",
+        load_first(Case::fresh(), log, 1152),
+        changed_number(2, 255, 3, 0),
+    );
+    line2(
+        b"the header alone, an entry too many:",
+        load_first(Case::fresh(), log, 4),
+        changed_number(0, 31, 0, 31),
+    );
+    line2(
+        b"T 32 and N 256 in 5 bytes, in 1157:",
+        load_first(Case::fresh(), log, 5),
+        longest_and_one(),
     );
     line1(
         b"T 0, N 0: load",
@@ -132,7 +155,7 @@ fn bodies() {
     );
 }
 
-// 10: a body and those before it in its transaction. The module `backs` has what stands behind a write.
+// 10 and 34: a body and those before it in its transaction. The module `backs` has what stands behind a write.
 fn pairs() {
     line2(
         b"second read at body 1, 255:",
@@ -179,9 +202,19 @@ fn several() {
         changed_number(136, 0, 142, 32),
     );
     line2(
-        b"T 33 and a byte too many; N 257 and cabinet 16:",
-        load_number(Case::fresh(), b"\x21\x00\x00\x00\x00"),
+        b"T 33 and too short; T 33 and too long:",
+        changed_number(0, 33, 0, 33),
+        changed_number(0, 33, 3, 0),
+    );
+    line2(
+        b"N 257 and a byte too few; N 257 and cabinet 16:",
+        load_first(Case::fresh(), with_byte(full(), 2, 1), 1155),
         changed_number(2, 1, 4, 16),
+    );
+    line2(
+        b"cabinet 16 and a byte too few; cabinet 16 and an entry too many:",
+        load_first(Case::fresh(), with_byte(full(), 4, 16), 1155),
+        changed_number(0, 31, 4, 16),
     );
 }
 

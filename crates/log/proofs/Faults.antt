@@ -55,7 +55,7 @@ faults-good o n t reads writes backs s =
     body : ℕ
     body =
         cond (eqb (o .kind) 0) (cond (named n (o .argument)) (cond (bit writes (o .key)) back (cond (bit reads (o .key)) 10 0)) 9)
-        (cond (bit writes (o .key)) 10 0)
+        (cond (bit writes (o .key)) 34 0)
 
     bit-is : eqb (o .kind) 0 ≡ true → read ≡ bitOr 0 (2 ^ key)
     bit-is e = ap (λ (x : Bool). cond x (bitOr 0 (2 ^ key)) 0) e
@@ -65,7 +65,7 @@ faults-good o n t reads writes backs s =
     name e q =
         ⊎-elim (λ y. y) (λ y. absurd (subst T (sym (one-bit key) ∙ ap (λ x. bit x key) (sym (bit-is e) ∙ sym (ap (λ (x : Bool). cond x 0 read) (false-eq (named n (o .argument)) y)) ∙ q) ∙ bit-none key) tt)) (decide (named n (o .argument)))
 
-    go : (z m r w : Bool) (k : ℕ) → (T z → T m × T (not r)) → T (not w) → _≡_ {A = ℕ} (cond z (cond m (cond w k (cond r 10 0)) 9) (cond w 10 0)) 0
+    go : (z m r w : Bool) (k : ℕ) → (T z → T m × T (not r)) → T (not w) → _≡_ {A = ℕ} (cond z (cond m (cond w k (cond r 10 0)) 9) (cond w 34 0)) 0
     go z m r true k f e = absurd e
     go false m r false k f e = refl
     go true false r false k f e = absurd (f tt .0)

@@ -7,12 +7,10 @@ use mathlib.Core.Logic.{_≢_}
 use mathlib.Core.Bool.{Bool, true, false, not, cond, _&&_, _||_}
 use mathlib.Core.List.{List}
 use lib.Dec.{T, eqb, ltb, eqb→eq, nltb→le}
-use lib.ListN.{length}
 use Rattle.model.specs.Lists.{bit}
 use Rattle.model.specs.History.{start}
-use Rattle.model.specs.Log.{transactionsIn, operationsIn, countAt, startAt, countsBefore, kindAt, keyAt, argumentAt, orElse, firstNumber, entryNumber, seen, backAt, seenBack, again, bodyNumber, bodiesNumber, loadNumber}
-use Rattle.model.proofs.Loaded.{Bytes, first-suc, or-else-none, or-else-some, first-on, first-stop, first-out, counts-suc, counts-mono, good-entry, good-body}
-use borrow.Author.Tests.{eq-eqb, ne-eqb, lt-ltb, le-ltb}
+use Rattle.model.specs.Log.{transactionsIn, operationsIn, countAt, startAt, countsBefore, kindAt, keyAt, argumentAt, orElse, firstNumber, entryNumber, seen, backAt, seenBack, again, bodyNumber, bodiesNumber}
+use Rattle.model.proofs.Loaded.{Bytes, first-suc, first-on, first-stop, first-out, counts-suc, counts-mono, good-entry, good-body}
 use Rattle.log.specs.Tests.{entryBy, nextBy, summedTo, named, backBy, readBy, writeBy, bodyBy, markBy, markBack}
 use Rattle.log.specs.Reading.{entryAt, recordAt}
 use Rattle.log.specs.declared.Body.{Body}
@@ -92,12 +90,12 @@ module _ (b : List ℕ) (first : ℕ) where
       by : ℕ
       by =
           cond (eqb kind 0) (cond (lo || st) (reading (bit (maskAt b first m 1) key) (bit (backsAt b first m) key) (bit (maskAt b first m 0) key)) 9)
-          (cond (bit (maskAt b first m 1) key) 10 0)
+          (cond (bit (maskAt b first m 1) key) 34 0)
 
       is : ℕ
       is =
           cond (eqb kind 0 && (not lo && not st)) 9
-          (cond (cond (eqb kind 0 && seen b first m 1 key) (seenBack b first m key) (seen b first m kind key)) 10
+          (cond (cond (eqb kind 0 && seen b first m 1 key) (seenBack b first m key) (seen b first m kind key)) (cond (eqb kind 0) 10 34)
           (cond ((eqb kind 0 && seen b first m 1 key) && not own) 11 0))
 
       turn : (x y : Bool) (n : ℕ) → _≡_ {A = ℕ} (cond (x || y) n 9) (cond (not x && not y) 9 n)
@@ -122,9 +120,9 @@ module _ (b : List ℕ) (first : ℕ) where
       step false k false o = refl
 
       go : (r : Bool) → (T r → kind ≡ 0) → (T (not r) → kind ≡ 1) → key < 32
-          → _≡_ {A = ℕ} (cond r (cond (lo || st) (reading (bit (maskAt b first m 1) key) (bit (backsAt b first m) key) (bit (maskAt b first m 0) key)) 9) (cond (bit (maskAt b first m 1) key) 10 0))
+          → _≡_ {A = ℕ} (cond r (cond (lo || st) (reading (bit (maskAt b first m 1) key) (bit (backsAt b first m) key) (bit (maskAt b first m 0) key)) 9) (cond (bit (maskAt b first m 1) key) 34 0))
           (cond (r && (not lo && not st)) 9
-          (cond (cond (r && seen b first m 1 key) (seenBack b first m key) (seen b first m kind key)) 10 (cond ((r && seen b first m 1 key) && not own) 11 0)))
+          (cond (cond (r && seen b first m 1 key) (seenBack b first m key) (seen b first m kind key)) (cond r 10 34) (cond ((r && seen b first m 1 key) && not own) 11 0)))
       go true f g l =
           turn lo st (reading (bit (maskAt b first m 1) key) (bit (backsAt b first m) key) (bit (maskAt b first m 0) key))
           ∙ ap {B = ℕ} (λ (x : ℕ). cond (not lo && not st) 9 x)
@@ -132,7 +130,7 @@ module _ (b : List ℕ) (first : ℕ) where
           ∙ ap₂ (λ (k r : Bool). reading (seen b first m 1 key) k r) (backs-bit b first m key l) (mask-bit b first m 0 key l ∙ ap (λ x. seen b first m x key) (sym (f tt)))
           ∙ step (seen b first m 1 key) (seenBack b first m key) (seen b first m kind key) own)
       go false f g l =
-          ap {B = ℕ} (λ (x : Bool). cond x 10 0) (mask-bit b first m 1 key l ∙ ap (λ x. seen b first m x key) (sym (g tt)))
+          ap {B = ℕ} (λ (x : Bool). cond x 34 0) (mask-bit b first m 1 key l ∙ ap (λ x. seen b first m x key) (sym (g tt)))
 
 -- ---- the loop over a transaction's bodies
 
@@ -183,66 +181,6 @@ first-found f n m x l e p g = p ∙ sym (first-stop f n m l e (λ z. g (p ∙ z)
 
 pub first-next : (f : ℕ → ℕ) (n x : ℕ) → firstNumber f n ≡ 0 → x ≡ f n → x ≡ 0 → firstNumber f (n + 1) ≡ 0
 first-next f n x e p z = ap (firstNumber f) (add-one n) ∙ first-on f n e (sym p ∙ z)
-
--- ---- the whole number, test by test
-
-module _ (b : List ℕ) where
-  abbrev after6 : ℕ
-  after6 = cond (eqb (countsBefore b (transactionsIn b)) (operationsIn b)) (firstNumber (bodiesNumber b) (transactionsIn b)) 6
-
-  abbrev after3 : ℕ
-  after3 = orElse (firstNumber (entryNumber b) (transactionsIn b)) after6
-
-  abbrev after2 : Bool → ℕ
-  after2 x = cond x after3 3
-
-  abbrev after1 : Bool → ℕ
-  after1 x = cond x 2 (after2 (eqb (length b) (4 + 4 * transactionsIn b + 4 * operationsIn b)))
-
-  load-is : (x : Bool) → ltb (length b) 4 ≡ x → loadNumber b ≡ cond x 1 (after1 (ltb 32 (transactionsIn b) || ltb 256 (operationsIn b)))
-  unfolding loadNumber
-  load-is x e = ap (λ y. cond y 1 (after1 (ltb 32 (transactionsIn b) || ltb 256 (operationsIn b)))) e
-
-  pub load-short : length b < 4 → 1 ≡ loadNumber b
-  load-short l = sym (load-is true (lt-ltb (length b) 4 l))
-
-  module _ (long : 4 ≤ length b) where
-    past1 : loadNumber b ≡ after1 (ltb 32 (transactionsIn b) || ltb 256 (operationsIn b))
-    past1 = load-is false (le-ltb (length b) 4 long)
-
-    pub load-many-t : 32 < transactionsIn b → 2 ≡ loadNumber b
-    load-many-t l = sym (past1 ∙ ap (λ (x : Bool). after1 (x || ltb 256 (operationsIn b))) (lt-ltb 32 (transactionsIn b) l))
-
-    module _ (few : transactionsIn b ≤ 32) where
-      pub load-many-n : 256 < operationsIn b → 2 ≡ loadNumber b
-      load-many-n l =
-          sym (past1 ∙ ap₂ (λ (x y : Bool). after1 (x || y)) (le-ltb 32 (transactionsIn b) few) (lt-ltb 256 (operationsIn b) l))
-
-      module _ (many : operationsIn b ≤ 256) where
-        past2 : loadNumber b ≡ after2 (eqb (length b) (4 + 4 * transactionsIn b + 4 * operationsIn b))
-        past2 = past1 ∙ ap₂ (λ (x y : Bool). after1 (x || y)) (le-ltb 32 (transactionsIn b) few) (le-ltb 256 (operationsIn b) many)
-
-        pub load-length : (length b ≡ 4 + 4 * transactionsIn b + 4 * operationsIn b → ⊥) → 3 ≡ loadNumber b
-        load-length f = sym (past2 ∙ ap after2 (ne-eqb (length b) (4 + 4 * transactionsIn b + 4 * operationsIn b) f))
-
-        module _ (whole : length b ≡ 4 + 4 * transactionsIn b + 4 * operationsIn b) where
-          past3 : loadNumber b ≡ after3
-          past3 = past2 ∙ ap after2 (eq-eqb (length b) (4 + 4 * transactionsIn b + 4 * operationsIn b) whole)
-
-          pub load-entries : (x : ℕ) → x ≡ firstNumber (entryNumber b) (transactionsIn b) → x ≢ 0 → x ≡ loadNumber b
-          load-entries x e f = e ∙ sym (or-else-some (firstNumber (entryNumber b) (transactionsIn b)) after6 (λ z. f (e ∙ z))) ∙ sym past3
-
-          module _ (none : firstNumber (entryNumber b) (transactionsIn b) ≡ 0) where
-            past5 : loadNumber b ≡ after6
-            past5 = past3 ∙ or-else-none (firstNumber (entryNumber b) (transactionsIn b)) after6 none
-
-            pub load-sum : (countsBefore b (transactionsIn b) ≡ operationsIn b → ⊥) → 6 ≡ loadNumber b
-            load-sum f =
-                sym (past5 ∙ ap (λ (x : Bool). cond x (firstNumber (bodiesNumber b) (transactionsIn b)) 6) (ne-eqb (countsBefore b (transactionsIn b)) (operationsIn b) f))
-
-            pub load-bodies : countsBefore b (transactionsIn b) ≡ operationsIn b → firstNumber (bodiesNumber b) (transactionsIn b) ≡ loadNumber b
-            load-bodies e =
-                sym (past5 ∙ ap (λ (x : Bool). cond x (firstNumber (bodiesNumber b) (transactionsIn b)) 6) (eq-eqb (countsBefore b (transactionsIn b)) (operationsIn b) e))
 
 pub bodies-start : (b : List ℕ) → firstNumber (bodiesNumber b) 0 ≡ 0
 unfolding firstNumber

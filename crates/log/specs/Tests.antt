@@ -42,7 +42,7 @@ readBy n t reads writes backs key argument =
 
 -- a write of a key after writes of these keys
 unfoldable pub writeBy : ℕ → ℕ → ℕ
-writeBy writes key = cond (bit writes key) 10 0
+writeBy writes key = cond (bit writes key) 34 0
 
 -- a body of t, after reads, writes and read-backs of these keys
 unfoldable pub bodyBy : Body → ℕ → ℕ → ℕ → ℕ → ℕ → ℕ

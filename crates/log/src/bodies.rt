@@ -1,4 +1,4 @@
-// Load's tests of the bodies: 7 to 11. The keys that a transaction has read, written and read back so far are three masks.
+// Load's tests of the bodies: 7, 8, 9, 10 or 34, 11. The keys that a transaction has read, written and read back so far are three masks.
 // `count_good` goes over the bodies in one loop, with no branch on what a body is, to the first that is bad or a read-back. Where these are not all,
 // `first_refused` goes body by body through the transactions that end behind them and finds the number.
 ghost use mathlib.Core.Path.{_≡_};
@@ -66,15 +66,15 @@ fn read(argument: usize, n: usize, t: usize, key: u32, reads: u32, writes: u32, 
     if has(reads, key) { 10 } else { 0 }
 }
 
-// The number of a write: 10 or 0.
+// The number of a write: 34 where it is the second of its key, or 0.
 fn write(key: u32, writes: u32) -> u8
     requires { ⌜ key < 32 ⌝ }
     ensures { λ r. ⌜ r ≡ writeBy writes key ⌝ }
 {
-    if has(writes, key) { 10 } else { 0 }
+    if has(writes, key) { 34 } else { 0 }
 }
 
-// The number of a body of t: 7 to 11, or 0.
+// The number of a body of t: 7, 8, then that of a read or a write, or 0.
 fn number(o: Body, n: usize, t: usize, reads: u32, writes: u32, backs: u32) -> u8
     ensures { λ r. ⌜ r ≡ bodyBy o n t reads writes backs ⌝ }
 {

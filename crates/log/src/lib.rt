@@ -13,7 +13,7 @@ mod entries;
 mod fields;
 mod view;
 
-// The number that Load gives: 0 where the log is taken, else the first of 1 to 11 that applies.
+// The number that Load gives: 0 where the log is taken, else the first that applies of 1, 2, 3 or 35; of an entry 4, 5; 6; of a body 7, 8, 9, 10 or 34, 11.
 pub fn number(log: &[u8]) -> u8
     ensures { λ r. ⌜ r ≡ loadNumber (now (log .entry)) ⌝ }
 {
@@ -29,8 +29,9 @@ pub fn number(log: &[u8]) -> u8
     if n > 256 {
         return 2;
     }
-    if log.len() != 4 + 4 * t + 4 * n {
-        return 3;
+    let said = 4 + 4 * t + 4 * n;
+    if log.len() != said {
+        return if log.len() < said { 3 } else { 35 };
     }
     let c = entries::test(log, t);
     if c.number != 0 {

@@ -1,6 +1,6 @@
--- The demands on the definitions, in the demands' own words. `b` is a list of bytes that Load takes, `h` the history that it holds, `e` the
--- encoding and `pruning` the second number of the setting. Each theorem cites the law that proves it; nothing is assumed but that Load takes b,
--- and what `load-takes-every-well-formed` and the theorems on the log of a history, which are of any h, say.
+-- The demands on the definitions, in the demands' own words. `b` is a list of bytes, `h` the history that it holds, `e` the encoding and `pruning` the
+-- second number of the setting. Each theorem cites the law that proves it, and says itself what it asks of b or h: mostly that Load takes b, and where it
+-- needs it that b is a list of bytes.
 -- What the calls do is held to these definitions by their contracts (crates `checker` and `writer`).
 use Prim.Native.Nat.{ℕ, _≤_, _<_}
 use native.Mathlib.Omega.{arith}
@@ -12,11 +12,13 @@ use lib.Dec.{T}
 use lib.ListN.{length}
 use Rattle.model.specs.Lists.{All}
 use Rattle.model.specs.History.{History, start, size, operationsOf, isReadBack, readBacks, wellFormed, writes, reads, everyReadExplained, everyReadNamesWhatItSees, isOrder, legal, finalTable, withoutReadBacks}
-use Rattle.model.specs.Log.{startAt, backAt, loadNumber, historyOf, LaidOut}
+use Rattle.model.specs.Log.{startAt, backAt, bodyNumber, loadNumber, historyOf, LaidOut}
+use Rattle.model.specs.Refusals.{Shorter, Longer, FirstRefused, SecondRead, SecondWrite}
 use Rattle.model.specs.Writing.{logOf, hasLog}
 use Rattle.model.specs.Polygraph.{goodRead, edge, successor, Linked, isHead, tail, has, reach, pass, rows, unpruned, polygraph, Way, AcyclicSelection, Respects}
 use Rattle.model.specs.Search.{firstLegal, LexLess}
 use Rattle.model.proofs.Loaded.{Bytes, operationOf, back-is, history-size, keys-good, well-formed, loadable-log}
+use Rattle.model.proofs.Numbers.{numbers-listed, shorter-iff, longer-iff, body-iff, read-out, read-in, write-out, write-in}
 use Rattle.model.proofs.Takes.{takes, laid-out}
 use Rattle.model.proofs.Writing.{loads-back, same-bytes}
 use Rattle.model.proofs.Logs.{has-log-out, has-log-of, has-log-in, good-narrow, log-good}
@@ -42,6 +44,39 @@ load-takes-only-laid-out b taken = laid-out b taken
 -- Load takes every log that is laid out so and holds a well-formed history: together with the two before, these and no others.
 pub load-takes-every-well-formed : (b : List ℕ) → LaidOut b → T (wellFormed (historyOf b)) → loadNumber b ≡ 0
 load-takes-every-well-formed b laid good = takes b laid good
+
+-- ---- what the numbers tell: of any bytes
+
+-- Load's numbers are 0, 1 to 11, 34 and 35.
+pub numbers-of-load : (b : List ℕ) → (loadNumber b ≤ 11) ⊎ ((loadNumber b ≡ 34) ⊎ (loadNumber b ≡ 35))
+numbers-of-load b = numbers-listed b
+
+-- 3 is given exactly to a log that is shorter than its counts say, and 35 to one that is longer, where neither 1 nor 2 is.
+pub three-exactly-when-shorter : (b : List ℕ) → (loadNumber b ≡ 3) ↔ Shorter b
+three-exactly-when-shorter b = shorter-iff b
+
+pub thirty-five-exactly-when-longer : (b : List ℕ) → (loadNumber b ≡ 35) ↔ Longer b
+thirty-five-exactly-when-longer b = longer-iff b
+
+-- A number of a body, 7 and on but for 35, is given exactly where the first body that is refused has it. ..
+pub number-of-the-first-refused-body : (b : List ℕ) (x : ℕ) → 7 ≤ x → x ≢ 35
+    → (loadNumber b ≡ x) ↔ ((t : ℕ) × (m : ℕ) × FirstRefused b t m × (bodyNumber b t (startAt b t) m ≡ x))
+number-of-the-first-refused-body b x l f = body-iff b x l f
+
+-- .. So 10 is given exactly where the first body that is refused is a second read, and 34 where it is a second write.
+pub ten-exactly-at-a-second-read : (b : List ℕ) → (loadNumber b ≡ 10) ↔ ((t : ℕ) × (m : ℕ) × FirstRefused b t m × SecondRead b (startAt b t) m)
+ten-exactly-at-a-second-read b =
+    let is = body-iff b 10 (omega arith) (λ e. omega (arith, e)) in (
+      (λ e. let a = is .0 e in (a .0, a .1, a .2, read-out b (startAt b (a .0)) (a .0) (a .1) (a .3))),
+      λ a. is .1 (a .0, a .1, a .2, read-in b (startAt b (a .0)) (a .0) (a .1) (a .3)),
+    )
+
+pub thirty-four-exactly-at-a-second-write : (b : List ℕ) → (loadNumber b ≡ 34) ↔ ((t : ℕ) × (m : ℕ) × FirstRefused b t m × SecondWrite b (startAt b t) m)
+thirty-four-exactly-at-a-second-write b =
+    let is = body-iff b 34 (omega arith) (λ e. omega (arith, e)) in (
+      (λ e. let a = is .0 e in (a .0, a .1, a .2, write-out b (startAt b (a .0)) (a .0) (a .1) (a .3))),
+      λ a. is .1 (a .0, a .1, a .2, write-in b (startAt b (a .0)) (a .0) (a .1) (a .3)),
+    )
 
 -- ---- the log of a history
 

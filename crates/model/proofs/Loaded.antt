@@ -10,7 +10,7 @@ use lib.Dec.{T, eqb, ltb, leb, eqb→eq, eqb·suc-zero, ltb→lt, nltb→le, lt�
 use lib.ListN.{length, getD, List·getD-eq-default}
 use Rattle.model.specs.Lists.{implies, all, keepAfter, upTo, All}
 use Rattle.model.specs.History.{Transaction, Operation, start, size, noTransaction, cabinetOf, operationsOf, isRead, isWrite, isReadBack, outward, readBacks, keysOnce, goodOperation, goodKeys, goodTransaction, operationCount, wellFormed}
-use Rattle.model.specs.Log.{byteAt, pairAt, transactionsIn, operationsIn, cabinetAt, countAt, startAt, countsBefore, bodyAt, kindAt, keyAt, argumentAt, orElse, firstNumber, entryNumber, seen, backAt, seenBack, again, bodyNumber, bodiesNumber, loadNumber, operationAt, transactionAt, historyOf}
+use Rattle.model.specs.Log.{byteAt, pairAt, transactionsIn, operationsIn, cabinetAt, countAt, startAt, countsBefore, bodyAt, kindAt, keyAt, argumentAt, orElse, firstNumber, entryNumber, seen, backAt, seenBack, again, bodyNumber, bodiesNumber, lengthSaid, loadNumber, operationAt, transactionAt, historyOf}
 use Rattle.model.proofs.Basics.{decide, clash, not-intro, eq-T, and-in, implies-in, eq-eqb, same?, all-in, all-upTo-in, any-upTo-in, upTo-in, All-imp, All-map-in}
 use Rattle.model.proofs.Words.{length-upTo, getD-upTo}
 use Rattle.model.proofs.Loops.{map-snoc, fold-snoc}
@@ -72,6 +72,11 @@ skip : (a : Bool) (n x : ℕ) → cond a (suc n) x ≡ 0 → T (not a) × (x ≡
 skip true n x e = absurd (omega arith)
 skip false n x e = (tt, e)
 
+-- the same of one of two numbers
+skip-either : (a r : Bool) (m n x : ℕ) → cond a (cond r (suc m) (suc n)) x ≡ 0 → T (not a) × (x ≡ 0)
+skip-either a true m n x e = skip a m x e
+skip-either a false m n x e = skip a n x e
+
 need : (a : Bool) (n x : ℕ) → cond a x (suc n) ≡ 0 → T a × (x ≡ 0)
 need true n x e = (tt, e)
 need false n x e = absurd (omega arith)
@@ -91,7 +96,7 @@ nand false b t s = absurd s
 pub record Loaded (b : List ℕ) : Type 0 where
   pub few : transactionsIn b ≤ 32
   pub many : operationsIn b ≤ 256
-  pub long : length b ≡ 4 + 4 * transactionsIn b + 4 * operationsIn b
+  pub long : length b ≡ lengthSaid b
   pub cabinets : (t : ℕ) → t < transactionsIn b → cabinetAt b t ≤ 15
   pub starts : (t : ℕ) → t < transactionsIn b → startAt b t ≡ countsBefore b t
   pub sum : countsBefore b (transactionsIn b) ≡ operationsIn b
@@ -114,17 +119,19 @@ loaded b e =
     let n = transactionsIn b in
     let c6 : ℕ = cond (eqb (countsBefore b n) (operationsIn b)) (firstNumber (bodiesNumber b) n) 6 in
     let c4 : ℕ = orElse (firstNumber (entryNumber b) n) c6 in
-    let c3 : ℕ = cond (eqb (length b) (4 + 4 * n + 4 * operationsIn b)) c4 3 in
+    let c35 : ℕ = cond (ltb (lengthSaid b) (length b)) 35 c4 in
+    let c3 : ℕ = cond (ltb (length b) (lengthSaid b)) 3 c35 in
     let p1 = skip (ltb (length b) 4) 0 (cond (ltb 32 n || ltb 256 (operationsIn b)) 2 c3) e in
     let p2 = skip (ltb 32 n || ltb 256 (operationsIn b)) 1 c3 (p1 .1) in
-    let p3 = need (eqb (length b) (4 + 4 * n + 4 * operationsIn b)) 2 c4 (p2 .1) in
-    let p4 = or-else-out (firstNumber (entryNumber b) n) c6 (p3 .1) in
+    let p3 = skip (ltb (length b) (lengthSaid b)) 2 c35 (p2 .1) in
+    let p35 = skip (ltb (lengthSaid b) (length b)) 34 c4 (p3 .1) in
+    let p4 = or-else-out (firstNumber (entryNumber b) n) c6 (p35 .1) in
     let p6 = need (eqb (countsBefore b n) (operationsIn b)) 5 (firstNumber (bodiesNumber b) n) (p4 .1) in
     let small = nor (ltb 32 n) (ltb 256 (operationsIn b)) (p2 .0) in
     record {
       few = nltb→le 32 n (small .0);
       many = nltb→le 256 (operationsIn b) (small .1);
-      long = eqb→eq (length b) (4 + 4 * n + 4 * operationsIn b) (p3 .0);
+      long = omega (arith, nltb→le (length b) (lengthSaid b) (p3 .0), nltb→le (lengthSaid b) (length b) (p35 .0));
       cabinets = λ t l. good-entry b t (first-out (entryNumber b) n (p4 .0) t l) .cabinet;
       starts = λ t l. good-entry b t (first-out (entryNumber b) n (p4 .0) t l) .start-is;
       sum = eqb→eq (countsBefore b n) (operationsIn b) (p6 .0);
@@ -148,13 +155,13 @@ good-body b t first m e =
     let st = eqb (argumentAt b i) start in
     let itself = eqb (argumentAt b i) t in
     let c11 : ℕ = cond (backAt b first m && not itself) 11 0 in
-    let c10 : ℕ = cond (again b first m) 10 c11 in
+    let c10 : ℕ = cond (again b first m) (cond rd 10 34) c11 in
     let c9 : ℕ = cond (rd && (not lo && not st)) 9 c10 in
     let c8 : ℕ = cond (ltb 31 (keyAt b i)) 8 c9 in
     let p7 = skip (ltb 1 (kindAt b i)) 6 c8 e in
     let p8 = skip (ltb 31 (keyAt b i)) 7 c9 (p7 .1) in
     let p9 = skip (rd && (not lo && not st)) 8 c10 (p8 .1) in
-    let p10 = skip (again b first m) 9 c11 (p9 .1) in
+    let p10 = skip-either (again b first m) rd 9 33 c11 (p9 .1) in
     let p11 = skip (backAt b first m && not itself) 10 0 (p10 .1) in
     record {
       kind = nltb→le 1 (kindAt b i) (p7 .0);

@@ -1,17 +1,17 @@
 -- Load takes every log that is laid out right and holds a well-formed history. Assumes nothing.
-use Prim.Native.Nat.{ℕ, zero, suc, _+_, _*_, _≤_, _<_}
+use Prim.Native.Nat.{ℕ, zero, suc, _+_, _≤_, _<_}
 use native.Mathlib.Omega.{arith}
-use mathlib.Core.Path.{_≡_, refl, sym, ap, subst, _∙_}
+use mathlib.Core.Path.{_≡_, sym, ap, subst, _∙_}
 use mathlib.Core.Logic.{⊎-elim, _≢_}
 use mathlib.Core.Bool.{Bool, true, false, not, cond, _&&_, _||_}
 use mathlib.Core.List.{List, [], _∷_, map}
 use lib.Dec.{T, eqb, ltb, leb, eqb→eq, ltb→lt, leb→le}
-use lib.ListN.{length}
 use Rattle.model.specs.Lists.{implies, all, upTo, All}
 use Rattle.model.specs.History.{Operation, start, size, cabinetOf, operationsOf, isReadBack, outward, readBacks, keysOnce, goodOperation, goodKeys, goodTransaction, operationCount, wellFormed}
-use Rattle.model.specs.Log.{transactionsIn, operationsIn, cabinetAt, countAt, startAt, countsBefore, kindAt, keyAt, argumentAt, orElse, firstNumber, entryNumber, seen, backAt, seenBack, again, bodyNumber, bodiesNumber, loadNumber, historyOf, LaidOut}
+use Rattle.model.specs.Log.{transactionsIn, cabinetAt, countAt, startAt, countsBefore, kindAt, keyAt, argumentAt, entryNumber, seen, backAt, seenBack, again, bodyNumber, bodiesNumber, loadNumber, historyOf, LaidOut}
 use Rattle.model.proofs.Basics.{decide, clash, not-intro, and-l, and-r, and-in, implies-out, cond-out, eq-T, eq-eqb, same?, All-imp, all-out, all-upTo-out, any-upTo-out, any-upTo-in, upTo-out, All-map-out}
-use Rattle.model.proofs.Loaded.{or-else-none, none-found, neither, loaded, history-size, operationOf, operations-at, cabinet-at, upTo-from, mayPrecede, kept, keptFrom, back-is, count-upto}
+use Rattle.model.proofs.Loaded.{none-found, loaded, history-size, operationOf, operations-at, cabinet-at, upTo-from, mayPrecede, kept, keptFrom, back-is, count-upto}
+use Rattle.model.proofs.Numbers.{past, not-lt, entry-zero, load-bodies}
 
 -- ---- what holds of the operations that are kept by their place
 
@@ -160,17 +160,6 @@ module _ (b : List ℕ) (t : ℕ) (good : T (goodKeys t (map (operationOf b t) (
 
 -- ---- the number 0, test by test
 
-pass : (a : Bool) (n x : ℕ) → T (not a) → x ≡ 0 → cond a n x ≡ 0
-pass true n x t e = absurd t
-pass false n x t e = e
-
-meet : (a : Bool) (n x : ℕ) → T a → x ≡ 0 → cond a x n ≡ 0
-meet true n x t e = e
-meet false n x t e = absurd t
-
-not-lt : (m n : ℕ) → n ≤ m → T (not (ltb m n))
-not-lt m n l = not-intro (ltb m n) (λ t. absurd (omega (arith, ltb→lt m n t)))
-
 body-zero : (b : List ℕ) (t m : ℕ) → T (goodKeys t (map (operationOf b t) (upTo (countAt b t)))) → m < countAt b t
     → T (goodOperation (transactionsIn b) (operationOf b t m)) → bodyNumber b t (startAt b t) m ≡ 0
 unfolding bodyNumber goodOperation
@@ -189,14 +178,14 @@ body-zero b t m good k g =
     let kind = ltb→lt (kindAt b i) 2 (and-l (ltb (kindAt b i) 2) (ltb (keyAt b i) 32 && (ltb a 65536 && named)) g) in
     let key = ltb→lt (keyAt b i) 32 (and-l (ltb (keyAt b i) 32) (ltb a 65536 && named) g1) in
     let c11 : ℕ = cond (back && not itself) 11 0 in
-    let c10 : ℕ = cond (again b first m) 10 c11 in
+    let c10 : ℕ = cond (again b first m) (cond rd 10 34) c11 in
     let c9 : ℕ = cond (rd && (not lo && not st)) 9 c10 in
     let c8 : ℕ = cond (ltb 31 (keyAt b i)) 8 c9 in
-    pass (ltb 1 (kindAt b i)) 7 c8 (not-lt 1 (kindAt b i) (omega (arith, kind)))
-    (pass (ltb 31 (keyAt b i)) 8 c9 (not-lt 31 (keyAt b i) (omega (arith, key)))
-    (pass (rd && (not lo && not st)) 9 c10 (turn rd lo st (and-r (ltb a 65536) named g2))
-    (pass (again b first m) 10 c11 (not-again b t good m k)
-    (pass (back && not itself) 11 0 (own back itself (back-own b t good m k)) refl))))
+    past (ltb 1 (kindAt b i)) 7 c8 (not-lt 1 (kindAt b i) (omega (arith, kind)))
+    ∙ past (ltb 31 (keyAt b i)) 8 c9 (not-lt 31 (keyAt b i) (omega (arith, key)))
+    ∙ past (rd && (not lo && not st)) 9 c10 (turn rd lo st (and-r (ltb a 65536) named g2))
+    ∙ past (again b first m) (cond rd 10 34) c11 (not-again b t good m k)
+    ∙ past (back && not itself) 11 0 (own back itself (back-own b t good m k))
   where
     turn : (r l s : Bool) → T (implies r (l || s)) → T (not (r && (not l && not s)))
     turn true true s t = tt
@@ -208,12 +197,6 @@ body-zero b t m good k g =
     own true true f = tt
     own true false f = f tt
     own false d f = tt
-
-entry-zero : (b : List ℕ) (t : ℕ) → cabinetAt b t ≤ 15 → startAt b t ≡ countsBefore b t → entryNumber b t ≡ 0
-unfolding entryNumber
-entry-zero b t c s =
-    pass (ltb 15 (cabinetAt b t)) 4 (cond (eqb (startAt b t) (countsBefore b t)) 0 5) (not-lt 15 (cabinetAt b t) c)
-    (meet (eqb (startAt b t) (countsBefore b t)) 5 0 (eq-eqb s) refl)
 
 -- what a well-formed history says of the log's fields
 record Fields (b : List ℕ) : Type 0 where
@@ -256,21 +239,13 @@ fields b w =
     }
 
 pub takes : (b : List ℕ) → LaidOut b → T (wellFormed (historyOf b)) → loadNumber b ≡ 0
-unfolding loadNumber bodiesNumber
+unfolding bodiesNumber
 takes b laid w =
     let ok = fields b w in
     let n = transactionsIn b in
-    let c6 : ℕ = cond (eqb (countsBefore b n) (operationsIn b)) (firstNumber (bodiesNumber b) n) 6 in
-    let c4 : ℕ = orElse (firstNumber (entryNumber b) n) c6 in
-    let c3 : ℕ = cond (eqb (length b) (4 + 4 * n + 4 * operationsIn b)) c4 3 in
-    pass (ltb (length b) 4) 1 (cond (ltb 32 n || ltb 256 (operationsIn b)) 2 c3) (not-lt (length b) 4 (omega (arith, laid .long)))
-    (pass (ltb 32 n || ltb 256 (operationsIn b)) 2 c3
-    (neither (ltb 32 n) (ltb 256 (operationsIn b)) (not-lt 32 n (ok .few)) (not-lt 256 (operationsIn b) (omega (arith, ok .many, laid .sum))))
-    (meet (eqb (length b) (4 + 4 * n + 4 * operationsIn b)) 3 c4 (eq-eqb (laid .long))
-    (or-else-none (firstNumber (entryNumber b) n) c6
-    (none-found (entryNumber b) n (λ t l. entry-zero b t (ok .cabinets t l) (laid .starts t l)))
-    ∙ meet (eqb (countsBefore b n) (operationsIn b)) 6 (firstNumber (bodiesNumber b) n) (eq-eqb (laid .sum))
-    (none-found (bodiesNumber b) n (λ t l. none-found (bodyNumber b t (startAt b t)) (countAt b t) (λ m k. ok .bodies t m l k))))))
+    sym (load-bodies b (omega (arith, laid .long)) (ok .few) (omega (arith, ok .many, laid .sum)) (laid .long)
+    (none-found (entryNumber b) n (λ t l. entry-zero b t (ok .cabinets t l) (laid .starts t l))) (laid .sum))
+    ∙ none-found (bodiesNumber b) n (λ t l. none-found (bodyNumber b t (startAt b t)) (countAt b t) (λ m k. ok .bodies t m l k))
 
 -- and every log that it takes is laid out so
 pub laid-out : (b : List ℕ) → loadNumber b ≡ 0 → LaidOut b

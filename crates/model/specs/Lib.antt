@@ -3,6 +3,7 @@ pub mod History
 pub mod Polygraph
 pub mod RowWords
 pub mod Log
+pub mod Refusals
 pub mod Writing
 pub mod Search
 pub mod Lent

@@ -36,15 +36,30 @@ fn made(stage: Stage, length: usize, first: u8, second: u8, rest: u8) -> Case {
     }
 }
 
-// The same with a kind 2 in its first body.
-fn damaged(stage: Stage) -> Case {
+// The same with another byte at a place.
+fn damaged(stage: Stage, i: usize, x: u8) -> Case {
     let c = example();
     let whole = c.bytes;
-    let bytes = with_byte(whole, 12, 2);
+    let bytes = with_byte(whole, i, x);
     Case {
         stage,
         bytes,
         length: 24,
+        order: [0; 32],
+    }
+}
+
+// The case of one transaction that writes key 0 twice.
+fn twice(stage: Stage) -> Case {
+    let c = example();
+    let whole = c.bytes;
+    let one = with_byte(with_byte(whole, 0, 1), 2, 2);
+    let first = with_byte(with_byte(one, 8, 1), 9, 0);
+    let bytes = with_byte(with_byte(first, 12, 1), 13, 0);
+    Case {
+        stage,
+        bytes,
+        length: 16,
         order: [0; 32],
     }
 }
@@ -85,9 +100,17 @@ fn show(name: &[u8], c: Case) {
 
 fn fresh_ones() {
     show(b"says fresh, holds a log:", made(Stage::Fresh, 24, 1, 0, 0));
-    show(b"says loaded, a damaged log:", damaged(Stage::Loaded));
+    show(b"says loaded, a kind of 2:", damaged(Stage::Loaded, 12, 2));
+    show(
+        b"says loaded, N one too high:",
+        damaged(Stage::Loaded, 2, 4),
+    );
+    show(b"says loaded, N one too low:", damaged(Stage::Loaded, 2, 2));
     show(b"says loaded, length 0:", made(Stage::Loaded, 0, 1, 0, 0));
     show(b"says loaded, length 23:", made(Stage::Loaded, 23, 1, 0, 0));
+    show(b"says loaded, length 25:", made(Stage::Loaded, 25, 1, 0, 0));
+    show(b"says loaded, a second write:", twice(Stage::Loaded));
+    show(b"says ordered, a second write:", twice(Stage::Ordered));
     show(
         b"says loaded, length 1157:",
         made(Stage::Loaded, 1157, 1, 0, 0),
@@ -96,8 +119,14 @@ fn fresh_ones() {
         b"says ordered, the highest length:",
         made(Stage::Ordered, 18446744073709551615, 1, 0, 0),
     );
-    show(b"says ordered, a damaged log:", damaged(Stage::Ordered));
-    show(b"says no order, a damaged log:", damaged(Stage::NoOrder));
+    show(
+        b"says ordered, a kind of 2:",
+        damaged(Stage::Ordered, 12, 2),
+    );
+    show(
+        b"says no order, a kind of 2:",
+        damaged(Stage::NoOrder, 12, 2),
+    );
 }
 
 fn loaded_ones() {
@@ -168,7 +197,7 @@ fn main() {
     lists();
     tables();
     text(b"clear gives the fresh case of each kind:");
-    yes_no(same_case(damaged(Stage::Ordered).clear(), Case::fresh()));
+    yes_no(same_case(damaged(Stage::Ordered, 12, 2).clear(), Case::fresh()));
     yes_no(same_case(made(Stage::NoOrder, 1157, 1, 2, 3).clear(), Case::fresh()));
     end();
 }

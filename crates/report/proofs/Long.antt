@@ -1,18 +1,19 @@
--- Input longer than any log, 1,156 bytes, is refused with the number that its first bytes call for; so a program may read a part of it and stop.
+-- Input longer than any log, 1,156 bytes, is refused with the number that its first bytes call for; so a program may stop after a part of it that is longer too.
 -- Assumes nothing.
 use Prim.Native.Nat.{ℕ, _+_, _*_, _≤_, _<_}
 use native.Mathlib.Omega.{arith}
 use mathlib.Core.Path.{_≡_, refl, sym, ap, ap₂, _∙_}
 use mathlib.Core.Bool.{Bool, true, false, not, cond, _||_}
 use mathlib.Core.List.{List}
-use borrow.Author.Tests.{le-ltb, ltb-false, ne-eqb}
+use borrow.Author.Tests.{ltb-true, ltb-false, ne-eqb}
 use lib.Dec.{T, eqb, ltb, eqb→eq, nltb→le}
 use lib.ListN.{length, take}
 use lib.Seq.{getD-take, length-take-le}
-use Rattle.model.specs.Log.{pairAt, transactionsIn, operationsIn, loadNumber, historyOf, orElse, firstNumber, entryNumber, bodiesNumber, countsBefore}
+use Rattle.model.specs.Log.{pairAt, transactionsIn, operationsIn, loadNumber, historyOf}
 use Rattle.model.specs.Polygraph.{constraints}
 use Rattle.model.specs.Search.{firstLegal}
 use Rattle.model.proofs.Basics.{eqb-ne}
+use Rattle.model.proofs.Numbers.{load-many-t, load-many-n, load-longer}
 use Rattle.report.specs.Text.{refusedText}
 use Rattle.report.specs.Judge.{decidedText, judgeNumber, judgeText}
 
@@ -20,31 +21,16 @@ use Rattle.report.specs.Judge.{decidedText, judgeNumber, judgeText}
 abbrev pub tooMany : List ℕ → Bool
 tooMany b = ltb 32 (transactionsIn b) || ltb 256 (operationsIn b)
 
-few : (t n : ℕ) → (ltb 32 t || ltb 256 n) ≡ false → (t ≤ 32) × (n ≤ 256)
-few t n e = go (ltb 32 t) (ltb 256 n) refl refl e
+-- longer than any log: 2 or 35
+pub long-number : (b : List ℕ) → 1156 < length b → loadNumber b ≡ cond (tooMany b) 2 35
+long-number b l = go (ltb 32 (transactionsIn b)) (ltb 256 (operationsIn b)) refl refl
   where
-    go : (p q : Bool) → ltb 32 t ≡ p → ltb 256 n ≡ q → (p || q) ≡ false → (t ≤ 32) × (n ≤ 256)
-    go true q u v e = omega (arith, ap {B = ℕ} (λ (b : Bool). cond b 1 0) e)
-    go false true u v e = omega (arith, ap {B = ℕ} (λ (b : Bool). cond b 1 0) e)
-    go false false u v e = (omega (arith, ltb-false), omega (arith, ltb-false))
-
--- the rest of the tests, where the length is right
-rest : List ℕ → ℕ
-rest b =
-    orElse (firstNumber (entryNumber b) (transactionsIn b))
-    (cond (eqb (countsBefore b (transactionsIn b)) (operationsIn b)) (firstNumber (bodiesNumber b) (transactionsIn b)) 6)
-
-pub long-number : (b : List ℕ) → 1156 < length b → loadNumber b ≡ cond (tooMany b) 2 3
-unfolding loadNumber rest
-long-number b l =
-    ap (λ c. cond c 1 (cond (tooMany b) 2 (cond (eqb (length b) (4 + 4 * transactionsIn b + 4 * operationsIn b)) (rest b) 3))) (le-ltb (length b) 4 (omega arith))
-    ∙ go (tooMany b) refl
-  where
-    go : (c : Bool) → tooMany b ≡ c → cond c 2 (cond (eqb (length b) (4 + 4 * transactionsIn b + 4 * operationsIn b)) (rest b) 3) ≡ cond c 2 3
-    go true e = refl
-    go false e =
-        let f = few (transactionsIn b) (operationsIn b) e in
-        ap (λ c. cond c (rest b) 3) (ne-eqb (length b) (4 + 4 * transactionsIn b + 4 * operationsIn b) (λ q. omega arith))
+    go : (p q : Bool) → ltb 32 (transactionsIn b) ≡ p → ltb 256 (operationsIn b) ≡ q → loadNumber b ≡ cond (p || q) 2 35
+    go true q u v = sym (load-many-t b (omega arith) (ltb-true 32 (transactionsIn b) u))
+    go false true u v = sym (load-many-n b (omega arith) (ltb-true 256 (operationsIn b) v))
+    go false false u v =
+        let t = ltb-false 32 (transactionsIn b) u in
+        let n = ltb-false 256 (operationsIn b) v in sym (load-longer b (omega arith) t n (omega (arith, t, n)))
 
 -- ---- the first bytes are enough
 
@@ -58,7 +44,7 @@ long-prefix b n l h =
     let t : transactionsIn (take n b) ≡ transactionsIn b = pair-take b n 0 (omega arith) in
     let o : operationsIn (take n b) ≡ operationsIn b = pair-take b n 2 (omega arith) in
     long-number (take n b) (omega (arith, length-take-le n b h))
-    ∙ ap₂ {C = ℕ} (λ x y. cond (ltb 32 x || ltb 256 y) 2 3) t o
+    ∙ ap₂ {C = ℕ} (λ x y. cond (ltb 32 x || ltb 256 y) 2 35) t o
     ∙ sym (long-number b (omega arith))
 
 -- Load's number is Judge's, where it is not 0
@@ -102,6 +88,6 @@ judge-prefix b n l h =
     refused-only (take n b) (loadNumber b) (number-load (take n b) (loadNumber b) (long-prefix b n l h) some) some
     ∙ sym (refused-only b (loadNumber b) (number-load b (loadNumber b) refl some) some)
   where
-    not-zero : (c : Bool) → _≡_ {A = ℕ} (cond c 2 3) 0 → ⊥
+    not-zero : (c : Bool) → _≡_ {A = ℕ} (cond c 2 35) 0 → ⊥
     not-zero true e = omega arith
     not-zero false e = omega arith

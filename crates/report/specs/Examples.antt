@@ -41,8 +41,14 @@ examples =
     -- a read after the write of the key that names the start
     ∷ example (0x01 ∷ 0x00 ∷ 0x02 ∷ 0x00 ∷ 0x00 ∷ 0x02 ∷ 0x00 ∷ 0x00 ∷ 0x01 ∷ 0x00 ∷ 0x07 ∷ 0x00 ∷ 0x00 ∷ 0x00 ∷ 0xff ∷ 0xff ∷ [])
     (letters "refused 11\n")
+    -- a second write of a key in its transaction
+    ∷ example (0x01 ∷ 0x00 ∷ 0x02 ∷ 0x00 ∷ 0x00 ∷ 0x02 ∷ 0x00 ∷ 0x00 ∷ 0x01 ∷ 0x00 ∷ 0x07 ∷ 0x00 ∷ 0x01 ∷ 0x00 ∷ 0x07 ∷ 0x00 ∷ [])
+    (letters "refused 34\n")
+    -- a byte more than the counts say, and one less
+    ∷ example (0x01 ∷ 0x00 ∷ 0x00 ∷ 0x00 ∷ 0x00 ∷ 0x00 ∷ 0x00 ∷ 0x00 ∷ 0x00 ∷ []) (letters "refused 35\n")
+    ∷ example (0x01 ∷ 0x00 ∷ 0x00 ∷ 0x00 ∷ 0x00 ∷ 0x00 ∷ 0x00 ∷ []) (letters "refused 3\n")
     ∷ []
 
 pub examples-printed : All (λ (e : Example). judgeText (e .input) ≡ e .text) examples
 unfolding bit isReadBack outward writes reads lastWriter explained everyReadExplained isOrder keepsCabinets legal stored replay finalTable arrangements firstLegal pairAt countsBefore firstNumber entryNumber seen backAt seenBack again bodyNumber bodiesNumber loadNumber transactionAt historyOf digits numberText refusedText orderText keyText lineIf tableText foundText written decidedText judgeNumber judgeText goodRead successor inEnds between isSuccessor isHead tailWithin chained constraints
-examples-printed = (refl, (refl, (refl, (refl, (refl, (refl, (refl, (refl, tt))))))))
+examples-printed = (refl, (refl, (refl, (refl, (refl, (refl, (refl, (refl, (refl, (refl, (refl, tt)))))))))))

@@ -21,7 +21,7 @@ unfoldable pub decidedText : History → Option (List ℕ) → List ℕ
 decidedText h none = noOrderText
 decidedText h (some o) = foundText o (written h) (finalTable h o)
 
--- the number with which Load or Decide refuses the log: 1 to 11, then 14, more than 4,096 constraints in encoding 2
+-- the number with which Load or Decide refuses the log: Load's, then 14, more than 4,096 constraints in encoding 2
 unfoldable pub judgeNumber : List ℕ → ℕ
 judgeNumber b = cond (eqb (loadNumber b) 0) (cond (ltb 4096 (length (constraints (historyOf b) 2))) 14 0) (loadNumber b)
 

@@ -102,6 +102,7 @@ pub fn show() {
     show_log(b"the full log with read-backs:", &backed, 1156);
     let by_key = long(false);
     show_log(b"one of 96 operations, by key:", &by_key, 392);
+    show_log(b"the same and a byte behind it:", &by_key, 393);
     let in_rounds = long(true);
     show_log(b"one of 96 operations, in rounds:", &in_rounds, 392);
     let mut input = io::buffer();

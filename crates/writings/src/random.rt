@@ -24,14 +24,14 @@ const COUNT: u64 = 500;
 
 // The two-byte field at a place.
 fn pair(log: &[u8], i: usize) -> u16 {
-    let low = at(log, i % 4096) as u16;
-    let high = at(log, i % 4096 + 1) as u16;
+    let low = at(log, i % 6496) as u16;
+    let high = at(log, i % 6496 + 1) as u16;
     low % 256 + 256 * (high % 256)
 }
 
 // The notes with the body at a place noted: kind 0 is a read, any other a write.
 fn with_body(n: Notes, log: &[u8], i: usize) -> Notes {
-    let i = i % 4096;
+    let i = i % 6496;
     let key = at(log, i + 1);
     let argument = pair(log, i + 2);
     if at(log, i) == 0 {
@@ -114,7 +114,7 @@ fn changed(log: [u8; 1156], length: usize, seed: u64) -> [u8; 1156] {
     let a = trial::next(trial::next(seed % 1000000 * 7919));
     let b = trial::next(a);
     let size = at(&log, 0);
-    let i = body(log, a) % 4096;
+    let i = body(log, a) % 6496;
     if i + 4 > length {
         return log;
     }
@@ -143,7 +143,7 @@ pub struct Tally {
     pub alike: u64,
     pub taken: u64,
     pub refused: u64,
-    pub numbers: [u64; 12],
+    pub numbers: [u64; 64],
 }
 
 fn more(n: u64, yes: bool) -> u64 {
@@ -162,7 +162,7 @@ fn with_sample(t: Tally, log: [u8; 1156], length: usize, seed: u64) -> Tally {
         return out;
     }
     out.refused = more(t.refused, refused_content(m));
-    out.numbers[number as usize % 12] = more(t.numbers[number as usize % 12], true);
+    out.numbers[number as usize % 64] = more(t.numbers[number as usize % 64], true);
     out
 }
 
@@ -173,7 +173,7 @@ fn row(kind: u8) -> Tally {
         alike: 0,
         taken: 0,
         refused: 0,
-        numbers: [0; 12],
+        numbers: [0; 64],
     };
     for seed in 0..COUNT {
         let small = trial::log::of(trial::small(kind, seed));
@@ -208,6 +208,8 @@ fn print(name: &[u8], kind: u8) {
     number(numbers[9]);
     text(b", 10");
     number(numbers[10]);
+    text(b", 34");
+    number(numbers[34]);
     text(b", 11");
     number(numbers[11]);
     end();
