@@ -24,14 +24,14 @@ const COUNT: u64 = 500;
 
 // The two-byte field at a place.
 fn pair(log: &[u8], i: usize) -> u16 {
-    let low = at(log, i % 6496) as u16;
-    let high = at(log, i % 6496 + 1) as u16;
+    let low = at(log, i % 4096) as u16;
+    let high = at(log, i % 4096 + 1) as u16;
     low % 256 + 256 * (high % 256)
 }
 
 // The notes with the body at a place noted: kind 0 is a read, any other a write.
 fn with_body(n: Notes, log: &[u8], i: usize) -> Notes {
-    let i = i % 6496;
+    let i = i % 4096;
     let key = at(log, i + 1);
     let argument = pair(log, i + 2);
     if at(log, i) == 0 {
@@ -114,7 +114,7 @@ fn changed(log: [u8; 1156], length: usize, seed: u64) -> [u8; 1156] {
     let a = trial::next(trial::next(seed % 1000000 * 7919));
     let b = trial::next(a);
     let size = at(&log, 0);
-    let i = body(log, a) % 6496;
+    let i = body(log, a) % 4096;
     if i + 4 > length {
         return log;
     }
