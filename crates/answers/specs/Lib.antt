@@ -1,4 +1,5 @@
 pub mod Copies
+pub mod Counts
 pub mod Finding
 pub mod Numbers
 pub mod Settings

@@ -23,8 +23,8 @@ pub struct Outcome {
     pub number: u8,
     pub found: bool,
     pub order: [u8; 32],
-    pub count: usize,
-    pub left: usize,
+    pub count: u16,
+    pub left: u16,
 }
 
 // A refusal, with nothing beside it.
@@ -45,9 +45,9 @@ fn settle(
     rows: &mut [u32; 32],
     tables: &[u32; WORDS],
     chosen: &mut [u16; PLACES],
-    n: usize,
+    n: u16,
     pruning: u8,
-) -> usize
+) -> u16
     requires { ⌜ n ≤ 4096 ⌝ }
     ensures { λ r. ⌜ (r ≤ n) × ((g : List ℕ) → now (rows .entry) ≡ reach g → Tidy g
         → PrunedTo (settled pruning (record { known = g; choices = itemsBy (now (tables .entry)) (now (chosen .entry)) n })) (now (tables .entry)) (now (chosen .exit)) r (now (rows .exit))) ⌝ }

@@ -13,13 +13,13 @@ pub fn setting_refusal(encoding: u8, pruning: u8) -> u8
 }
 
 // 14 more than 4,096 constraints; 25 a list with fewer places than constraints, or fewer than 32 row words.
-pub fn places_refusal(count: usize, places: usize, words: usize) -> u8
+pub fn places_refusal(count: u16, places: usize, words: usize) -> u8
     ensures { λ r. ⌜ r ≡ placesRefusal count places words ⌝ }
 {
     if count > 4096 {
         return 14;
     }
-    if places < count {
+    if places < count as usize {
         return 25;
     }
     if words < 32 { 25 } else { 0 }

@@ -35,7 +35,7 @@ planningK = of-declared P.the-type P′.the-laws P′.lowers P′.the-plain P′
 -- what holds of a plan within what a call returned
 pub record PlanOk (w : Plan) : Type 0 where
   pub tables-ok : Good tablesK (w .tables)
-  pub count-fits : w .count < 2 ^ 64
+  pub count-fits : w .count < 2 ^ 16
   pub chosen-ok : Good placesK (w .chosen)
 
 pub of-plan : (w : Plan) (v : Val) → Is (planK .row) w (v ∷ []) → PlanOk w

@@ -23,7 +23,7 @@ pub(crate) struct Prepared {
     pub plan: Plan,
     pub found: bool,
     pub order: [u8; 32],
-    pub left: usize,
+    pub left: u16,
 }
 
 // A refusal, with nothing to write.
@@ -101,7 +101,7 @@ pub(crate) fn stored(c: Case, number: u8, found: bool, order: [u8; 32]) -> Case
 }
 
 // The answer beside that case, with so many constraints left.
-pub(crate) fn answer(c: Case, number: u8, found: bool, order: [u8; 32], left: usize) -> Decision
+pub(crate) fn answer(c: Case, number: u8, found: bool, order: [u8; 32], left: u16) -> Decision
     ensures { λ r. ⌜ r ≡ answering c number found order left ⌝ }
 {
     if number != 0 {
@@ -117,13 +117,13 @@ pub(crate) fn answer(c: Case, number: u8, found: bool, order: [u8; 32], left: us
             case: c,
             verdict: Verdict::Order,
             order,
-            left,
+            left: left as usize,
         };
     }
     Decision {
         case: c,
         verdict: Verdict::NoOrder,
         order,
-        left,
+        left: left as usize,
     }
 }

@@ -7,7 +7,7 @@ use listing::WORDS;
 // copies them less often (docs/DECISIONS.md).
 pub(crate) struct Plan {
     pub tables: [u32; WORDS],
-    pub count: usize,
+    pub count: u16,
     pub chosen: [u16; PLACES],
 }
 

@@ -62,19 +62,19 @@ pub(crate) fn planned(c: Case, encoding: u8, pruning: u8, places: usize, words: 
 }
 
 // The answer: the case as it was, the number, and the count left.
-pub(crate) fn answer(c: Case, number: u8, left: usize) -> Encoding
+pub(crate) fn answer(c: Case, number: u8, left: u16) -> Encoding
     ensures { λ r. ⌜ r ≡ record { case = c; reply = replyOf number; left = left } ⌝ }
 {
     if number == 0 {
         return Encoding {
             case: c,
             reply: Reply::Taken,
-            left,
+            left: left as usize,
         };
     }
     Encoding {
         case: c,
         reply: Reply::Refused(number),
-        left,
+        left: left as usize,
     }
 }

@@ -13,9 +13,9 @@ use listing::WORDS;
 use search::order::Found;
 
 // How many constraints are few, and some; and the words that few, some and all take, four each.
-const FEW: usize = 64;
+const FEW: u16 = 64;
 
-const SOME: usize = 512;
+const SOME: u16 = 512;
 
 const FEW_WORDS: usize = 256;
 
@@ -24,12 +24,12 @@ const SOME_WORDS: usize = 2048;
 const ALL_WORDS: usize = 16384;
 
 // The constraints of the first n numbers as words, four each.
-fn words<'a, 'b>(tables: &'a [u32; WORDS], chosen: &'a [u16; PLACES], n: usize, out: &'b mut [u32])
+fn words<'a, 'b>(tables: &'a [u32; WORDS], chosen: &'a [u16; PLACES], n: u16, out: &'b mut [u32])
     requires { ⌜ (n ≤ 4096) × (4 * n ≤ length (now out)) ⌝ }
     ensures { λ _. ⌜ WordsOf (itemsBy (now (tables .entry)) (now (chosen .entry)) n) n (length (now (out .entry))) (now (out .exit)) ⌝ }
 {
     let mut i: usize = 0;
-    while i < n {
+    while i < n as usize {
         search::put_constraint(out, i, listing::nth(tables, chosen, i));
         i += 1;
     }
@@ -40,7 +40,7 @@ fn first_of_few<'a, 'b>(
     log: &'a [u8],
     tables: &'b [u32; WORDS],
     chosen: &'b [u16; PLACES],
-    n: usize,
+    n: u16,
     closed: [u32; 32],
 ) -> Found
     requires { ⌜ (loadNumber (now log) ≡ 0) × (n ≤ 64) × SettledIn (historyOf (now log)) (now tables) (now chosen) n closed × PartialOrder closed ⌝ }
@@ -57,7 +57,7 @@ fn first_of_some<'a, 'b>(
     log: &'a [u8],
     tables: &'b [u32; WORDS],
     chosen: &'b [u16; PLACES],
-    n: usize,
+    n: u16,
     closed: [u32; 32],
 ) -> Found
     requires { ⌜ (loadNumber (now log) ≡ 0) × (n ≤ 512) × SettledIn (historyOf (now log)) (now tables) (now chosen) n closed × PartialOrder closed ⌝ }
@@ -74,7 +74,7 @@ fn first_of_many<'a, 'b>(
     log: &'a [u8],
     tables: &'b [u32; WORDS],
     chosen: &'b [u16; PLACES],
-    n: usize,
+    n: u16,
     closed: [u32; 32],
 ) -> Found
     requires { ⌜ (loadNumber (now log) ≡ 0) × SettledIn (historyOf (now log)) (now tables) (now chosen) n closed × PartialOrder closed ⌝ }
@@ -92,7 +92,7 @@ pub fn first_settled<'a, 'b>(
     log: &'a [u8],
     tables: &'b [u32; WORDS],
     chosen: &'b [u16; PLACES],
-    n: usize,
+    n: u16,
     closed: [u32; 32],
 ) -> Found
     requires { ⌜ (loadNumber (now log) ≡ 0) × SettledIn (historyOf (now log)) (now tables) (now chosen) n closed ⌝ }

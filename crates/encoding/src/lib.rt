@@ -20,7 +20,7 @@ use pruning::Pruned;
 // the count of constraints before pruning.
 pub struct Known {
     pub rows: [u32; 32],
-    pub count: usize,
+    pub count: u16,
 }
 
 // The tables and the numbers of the constraints in an encoding; how many constraints.
@@ -32,7 +32,7 @@ fn choose(
     marks: &[u32; MARKS],
     tables: &mut [u32; WORDS],
     chosen: &mut [u16; PLACES],
-) -> usize
+) -> u16
     requires { ⌜ TablesOf (now log) n (now writers) (now marks) × (encoding ≤ 2) × Space (now tables) (now chosen) ⌝ }
     ensures { λ r. ⌜ Chosen (historyOf (now (log .entry))) encoding (now (tables .exit)) (now (chosen .exit)) r ⌝ }
 {
@@ -70,7 +70,7 @@ pub fn write<'a, 'b>(
     tables: &'a [u32; WORDS],
     chosen: &'a [u16; PLACES],
     rows: [u32; 32],
-    n: usize,
+    n: u16,
     pruning: u8,
     list: &'b mut [Constraint],
 ) -> Pruned
@@ -87,8 +87,8 @@ pub fn write<'a, 'b>(
 pub fn write_left<'a, 'b>(
     tables: &'a [u32; WORDS],
     chosen: &'a [u16; PLACES],
-    left: usize,
-    n: usize,
+    left: u16,
+    n: u16,
     list: &'b mut [Constraint],
 )
     requires { ⌜ (left ≤ n) × (n ≤ 4096) × (n ≤ length (now list)) ⌝ }

@@ -8,11 +8,11 @@ use mathlib.Core.Path.{_≡_, refl, sym, ap, ap₂, subst, _∙_}
 use mathlib.Core.Bool.{Bool, true, false, cond}
 use mathlib.Core.List.{List, [], _∷_, _++_, append-nil, append-assoc}
 use lib.Dec.{ltb}
-use lib.ListN.{length, take, set, length-append, length-map, length-set}
+use lib.ListN.{length, take, set, length-append, length-set}
 use lib.Seq.{take-suc-set}
 use borrow.Author.Tests.{lt-ltb}
 use Rattle.graph.specs.Members.{members}
-use Rattle.graph.proofs.MemberLaws.{members-none, members-few}
+use Rattle.graph.proofs.MemberLaws.{members-none}
 use Rattle.listing.specs.Choosing.{pushed, pushedAll, Chose, inRow}
 
 pushed-in : (ks : List ℕ) (n c : ℕ) → n < 4096 → pushed ks n c ≡ set ks n c
@@ -89,7 +89,3 @@ row-next row z js ks e = ap (inRow row) e
 pub row-none : (row m : ℕ) → m ≡ 0 → inRow row (members m) ≡ []
 unfolding inRow
 row-none row m e = ap (λ x. inRow row (members x)) e ∙ ap (inRow row) members-none
-
-pub row-few : (row m : ℕ) → length (inRow row (members m)) ≤ 32
-unfolding inRow
-row-few row m = omega (arith, length-map (members m) (λ j. row * 32 + j), members-few m)

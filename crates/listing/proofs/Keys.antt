@@ -1,26 +1,18 @@
 -- The tables of runs, key by key. Assumes nothing.
 --     key-idle, key-busy       a key without two runs, and one with
 --     Keys         what stands there after the first k keys.        keys-none, keys-next, keys-all
-use Prim.Native.Nat.{ℕ, _+_, _*_, _≤_}
-use native.Mathlib.Omega.{arith}
+use Prim.Native.Nat.{ℕ, _+_}
 use native.Mathlib.Numerals.{add-one}
 use mathlib.Core.Path.{_≡_, refl, sym, ap, ap₂, subst, _∙_}
 use mathlib.Core.Bool.{Bool, true, false, cond}
-use mathlib.Core.List.{List, [], _∷_}
-use lib.ListN.{length, getD, set, length-append, length-map}
+use mathlib.Core.List.{List, []}
+use lib.ListN.{getD, set}
 use Rattle.model.specs.Lists.{each, fold, upTo}
 use Rattle.model.proofs.Loops.{each-snoc, fold-snoc}
 use Rattle.graph.specs.Members.{members}
-use Rattle.graph.proofs.MemberLaws.{members-few}
-use Rattle.listing.specs.Choosing.{Chose, inRow}
-use Rattle.listing.specs.Runs.{firstBy, wordsBy, pairsOf, pairsIn, isFew, isIdle, keyWords, keyNumbers, runWords, runNumbers}
+use Rattle.listing.specs.Choosing.{Chose}
+use Rattle.listing.specs.Runs.{firstBy, wordsBy, pairsIn, isFew, isIdle, keyWords, keyNumbers, runWords, runNumbers}
 use Rattle.listing.proofs.Choosing.{chose-none, chose-app}
-
-pairs-few : (k : ℕ) (gs : List ℕ) → length gs ≤ 32 → length (pairsIn k gs) ≤ 32 * length gs
-unfolding pairsIn pairsOf inRow
-pairs-few k [] l = omega arith
-pairs-few k (i ∷ js) l =
-    omega (arith, pairs-few k js (omega arith), length-append (inRow (k * 32 + i) js) (pairsIn k js), length-map js (λ j. (k * 32 + i) * 32 + j))
 
 module _ (e : ℕ) (writers marks : List ℕ) where
   module _ (k : ℕ) where
@@ -50,28 +42,18 @@ module _ (e : ℕ) (writers marks : List ℕ) where
       subst (λ b. Chose (cond b [] (pairsIn k (members F))) from ks r ls) (sym p) c,
     )
 
-    numbers-few : length (keyNumbers e writers marks k) ≤ 1024
-    unfolding keyNumbers
-    numbers-few = go (isIdle e writers marks k)
-      where
-        go : (b : Bool) → length (cond b [] (pairsIn k (members F))) ≤ 1024
-        go true = omega arith
-        go false = omega (arith, pairs-few k (members F) (members-few F), members-few F)
-
   -- after the first k keys: the words x, and the count and the numbers, where w and ks stood
   pub record Keys (n : ℕ) (w ks : List ℕ) (k : ℕ) (x : List ℕ) (r : ℕ) (ls : List ℕ) : Type 0 where
-    pub low : r ≤ k * 1024
     pub words : x ≡ fold (keyWords e n writers marks) w (upTo k)
     pub chose : Chose (each (keyNumbers e writers marks) (upTo k)) 0 ks r ls
 
   module _ (n : ℕ) (w ks : List ℕ) where
     pub keys-none : Keys n w ks 0 w 0 ks
-    keys-none = record { low = omega arith; words = refl; chose = chose-none 0 ks }
+    keys-none = record { words = refl; chose = chose-none 0 ks }
 
     pub keys-next : (k r q : ℕ) (x y ls ms : List ℕ) → Keys n w ks k x r ls → (y ≡ keyWords e n writers marks x k) × Chose (keyNumbers e writers marks k) r ls q ms
         → Keys n w ks (k + 1) y q ms
     keys-next k r q x y ls ms s p = record {
-      low = omega (arith, s .low, p .1 .count, numbers-few k);
       words = p .0 ∙ ap (λ z. keyWords e n writers marks z k) (s .words) ∙ sym (fold-snoc (keyWords e n writers marks) w (upTo k) k)
           ∙ ap (λ i. fold (keyWords e n writers marks) w (upTo i)) (sym (add-one k));
       chose = subst (λ cs. Chose cs 0 ks q ms) (sym (each-snoc (keyNumbers e writers marks) (upTo k) k) ∙ ap (λ i. each (keyNumbers e writers marks) (upTo i)) (sym (add-one k)))

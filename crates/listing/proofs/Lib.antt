@@ -1,5 +1,6 @@
 pub mod Tailing
 pub mod Choosing
+pub mod Counts
 pub mod Stepping
 pub mod Keys
 pub mod PlainFill

@@ -1,5 +1,5 @@
 -- The tables of encoding 0, body by body: the words, and the numbers. Assumes nothing.
-use Prim.Native.Nat.{ℕ, zero, suc, _+_, _*_, _≤_, _<_}
+use Prim.Native.Nat.{ℕ, suc, _+_, _*_, _≤_, _<_}
 use native.Mathlib.Omega.{arith}
 use native.Mathlib.Numerals.{add-one}
 use mathlib.Core.Path.{_≡_, sym, ap, ap₂, subst, _∙_}
@@ -7,7 +7,7 @@ use mathlib.Core.Logic.{_⊎_, ⊎-elim, _≢_}
 use mathlib.Core.Bool.{not}
 use mathlib.Core.List.{List}
 use lib.Dec.{T, ltb, ltb→lt, nltb→le}
-use lib.ListN.{length, getD, set, length-set, length-append}
+use lib.ListN.{length, getD, set, length-set}
 use lib.Seq.{getD-set-same, getD-set-other}
 use Rattle.model.specs.Lists.{each, upTo}
 use Rattle.model.specs.Log.{transactionsIn, operationsIn, countAt, startAt, countsBefore, operationAt, loadNumber}
@@ -17,7 +17,7 @@ use Rattle.model.proofs.Loaded.{Loaded, loaded, counts-suc, counts-mono, within
 use Rattle.graph.specs.Members.{members}
 use Rattle.listing.specs.Choosing.{Chose, inRow}
 use Rattle.listing.specs.Plain.{maskOf, bodyWord, bodyNumbers, plainNumbersOf, plainNumbers, PlainTable}
-use Rattle.listing.proofs.Choosing.{chose-none, chose-app, row-few}
+use Rattle.listing.proofs.Choosing.{chose-none, chose-app}
 
 -- ---- the words
 
@@ -102,36 +102,17 @@ module _ (b ws : List ℕ) where
       subst (λ cs. Chose cs from ks r ms) (sym (each-snoc (bodyNumbers b ws t) (upTo m) m) ∙ ap (plainNumbersOf b ws t) (sym (add-one m)))
       (chose-app (each (bodyNumbers b ws t) (upTo m)) (bodyNumbers b ws t m) from n r ks ls ms p (subst (λ x. Chose (inRow (startAt b t + m) (members x)) n ls r ms) q c))
 
-  numbers-few : (t m : ℕ) → length (plainNumbersOf b ws t m) ≤ 32 * m
-  unfolding plainNumbersOf bodyNumbers
-  numbers-few t zero = omega arith
-  numbers-few t (suc m) =
-      omega (
-        arith,
-        numbers-few t m,
-        ap length (each-snoc (bodyNumbers b ws t) (upTo m) m),
-        length-append (each (bodyNumbers b ws t) (upTo m)) (bodyNumbers b ws t m),
-        row-few (startAt b t + m) (maskOf ws t (operationAt b (startAt b t + m))),
-      )
-
   -- ---- by transaction
 
-  -- after the first t transactions: the count, and the numbers
-  pub record Bodies (ks : List ℕ) (t r : ℕ) (ls : List ℕ) : Type 0 where
-    pub low : r ≤ 32 * countsBefore b t
-    pub chose : Chose (plainNumbers b ws t) 0 ks r ls
-
-  pub bodies-none : (ks : List ℕ) → Bodies ks 0 0 ks
+  pub bodies-none : (ks : List ℕ) → Chose (plainNumbers b ws 0) 0 ks 0 ks
   unfolding plainNumbers
-  bodies-none ks = record { low = omega arith; chose = chose-none 0 ks }
+  bodies-none ks = chose-none 0 ks
 
-  pub bodies-next : (ks ls ms : List ℕ) (t n r : ℕ) → Bodies ks t n ls → Chose (plainNumbersOf b ws t (countAt b t)) n ls r ms → Bodies ks (t + 1) r ms
+  pub bodies-next : (ks ls ms : List ℕ) (t n r : ℕ) → Chose (plainNumbers b ws t) 0 ks n ls → Chose (plainNumbersOf b ws t (countAt b t)) n ls r ms → Chose (plainNumbers b ws (t + 1)) 0 ks r ms
   unfolding plainNumbers
-  bodies-next ks ls ms t n r s c = record {
-    low = omega (arith, s .low, c .count, numbers-few t (countAt b t), counts-suc b t, ap (countsBefore b) (add-one t));
-    chose = subst (λ cs. Chose cs 0 ks r ms) (sym (each-snoc (λ s. plainNumbersOf b ws s (countAt b s)) (upTo t) t) ∙ ap (plainNumbers b ws) (sym (add-one t)))
-        (chose-app (plainNumbers b ws t) (plainNumbersOf b ws t (countAt b t)) 0 n r ks ls ms (s .chose) c);
-  }
+  bodies-next ks ls ms t n r s c =
+      subst (λ cs. Chose cs 0 ks r ms) (sym (each-snoc (λ s. plainNumbersOf b ws s (countAt b s)) (upTo t) t) ∙ ap (plainNumbers b ws) (sym (add-one t)))
+      (chose-app (plainNumbers b ws t) (plainNumbersOf b ws t (countAt b t)) 0 n r ks ls ms s c)
 
-  pub bodies-all : (ks ls : List ℕ) (t n r : ℕ) → t ≡ n → Bodies ks t r ls → Chose (plainNumbers b ws n) 0 ks r ls
-  bodies-all ks ls t n r p s = subst (λ x. Chose (plainNumbers b ws x) 0 ks r ls) p (s .chose)
+  pub bodies-all : (ks ls : List ℕ) (t n r : ℕ) → t ≡ n → Chose (plainNumbers b ws t) 0 ks r ls → Chose (plainNumbers b ws n) 0 ks r ls
+  bodies-all ks ls t n r p s = subst (λ x. Chose (plainNumbers b ws x) 0 ks r ls) p s

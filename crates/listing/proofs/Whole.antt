@@ -15,11 +15,12 @@ use Rattle.model.specs.Log.{transactionsIn, operationsIn, loadNumber, historyOf
 use Rattle.model.proofs.Basics.{same?}
 use Rattle.polygraph.specs.Tables.{writersOf, readMarksOf}
 use Rattle.listing.specs.Candidates.{itemBy}
-use Rattle.listing.specs.Choosing.{Chose}
+use Rattle.listing.specs.Choosing.{mostPairs, Chose}
 use Rattle.listing.specs.Listing.{Chosen}
 use Rattle.listing.specs.Plain.{plainNumbers, PlainTable}
 use Rattle.listing.specs.Runs.{runWords, runNumbers}
 use Rattle.listing.proofs.Choosing.{chose-all, chose-long}
+use Rattle.listing.proofs.Counts.{runs-counts, plain-counts}
 use Rattle.listing.proofs.Lists.{items-take}
 use Rattle.listing.proofs.PlainList.{chosen-plain}
 use Rattle.listing.proofs.RunTables.{chosen-joined, chosen-chained}
@@ -32,10 +33,11 @@ constraints-are : (h : History) (e : ℕ) → constraints h e ≡ pick h (eqb e 
 unfolding constraints
 constraints-are h e = refl
 
-module _ (h : History) (e : ℕ) (t cs ks ls : List ℕ) (n : ℕ) (places : length ks ≡ 4096) (chose : Chose cs 0 ks n ls) where
+module _ (h : History) (e : ℕ) (t cs ks ls : List ℕ) (n : ℕ) (places : length ks ≡ 4096) (low : n ≤ mostPairs) (chose : Chose cs 0 ks n ls) where
   chosen : map (itemBy t) cs ≡ constraints h e → Chosen h e t ls n
   chosen is = record {
     count-is = omega (arith, chose .count, length-map cs (itemBy t), ap length is);
+    low = low;
     items-are = λ l.
         items-take t ls n (omega (arith, chose-long cs 0 n ks ls chose)) ∙ ap (map (itemBy t)) (chose-all cs n ks ls places chose l) ∙ is;
   }
@@ -47,7 +49,7 @@ module _ (h : History) (few : size h ≤ 32) (fine : T (wellFormed h)) where
       let own : t ≡ runWords e (size h) (writersOf h) (readMarksOf h) w =
       is ∙ ap₂ (λ (x : ℕ) (y : List ℕ). runWords e x y marks w) count is-writers ∙ ap (λ y. runWords e (size h) (writersOf h) y w) is-marks in
       let cs : runNumbers e writers marks ≡ runNumbers e (writersOf h) (readMarksOf h) = ap₂ (runNumbers e) is-writers is-marks in
-      chosen h e t (runNumbers e writers marks) ks ls r places c
+      chosen h e t (runNumbers e writers marks) ks ls r places (runs-counts r ks ls e writers marks c .1) c
       (ap₂ (λ x y. map (itemBy x) y) own cs
       ∙ ⊎-elim
       (λ (z : e ≡ 1).
@@ -62,6 +64,6 @@ module _ (h : History) (few : size h ≤ 32) (fine : T (wellFormed h)) where
 pub chosen-bodies : (b : List ℕ) → loadNumber b ≡ 0 → (e : ℕ) (writers t ks ls : List ℕ) (r : ℕ) → e ≡ 0 → writers ≡ writersOf (historyOf b) → length ks ≡ 4096
     → PlainTable b (operationsIn b) t → getD t 1024 0 ≡ 0 → Chose (plainNumbers b writers (transactionsIn b)) 0 ks r ls → Chosen (historyOf b) e t ls r
 chosen-bodies b loads e writers t ks ls r z is-writers places table zeroth c =
-    chosen (historyOf b) e t (plainNumbers b writers (transactionsIn b)) ks ls r places c
+    chosen (historyOf b) e t (plainNumbers b writers (transactionsIn b)) ks ls r places (plain-counts r ks ls b writers loads c .1) c
     (ap (λ x. map (itemBy t) (plainNumbers b x (transactionsIn b))) is-writers ∙ chosen-plain b loads t table zeroth
     ∙ sym (constraints-are (historyOf b) e ∙ ap (λ (a : Bool). pick (historyOf b) a (eqb e 1)) (eq-eqb e 0 z)))

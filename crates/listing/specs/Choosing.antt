@@ -6,6 +6,10 @@ use mathlib.Core.List.{List, [], _∷_, map}
 use lib.Dec.{ltb}
 use lib.ListN.{length, set}
 
+-- What 32 keys of 32 by 32 pairs can give: no count of constraints passes it before the test of 14, and 16 bits hold it.
+abbrev pub mostPairs : ℕ
+mostPairs = 32 * (32 * 32)
+
 -- the number c at place n, where there is one
 unfoldable pub pushed : List ℕ → ℕ → ℕ → List ℕ
 pushed ks n c = cond (ltb n 4096) (set ks n c) ks

@@ -2,12 +2,12 @@
 // Candidates are numbers in document 01's order. The tables say what a candidate's constraint is, and a list of numbers which of them are constraints;
 // both are lent.
 ghost use mathlib.Core.Path.{_≡_};
-ghost use Prim.Native.Nat.{_<_, _≤_};
+ghost use Prim.Native.Nat.{_<_, _≤_, _+_};
 ghost use mathlib.Core.List.{_++_};
 ghost use lib.ListN.{length, getD, drop};
 ghost use Rattle.graph.specs.Members.{members};
 ghost use Rattle.listing.specs.Candidates.{pairItem, chainItem, plainItem, endsBy, itemBy, itemsBy};
-ghost use Rattle.listing.specs.Choosing.{pushed, Chose, inRow};
+ghost use Rattle.listing.specs.Choosing.{mostPairs, pushed, Chose, inRow};
 use graph::mask::clear_low;
 use graph::mask::without;
 use model::Constraint;
@@ -109,18 +109,18 @@ pub fn nth<'a>(tables: &'a [u32; WORDS], chosen: &'a [u16; PLACES], i: usize) ->
 }
 
 // The number c at place n; one without a place is counted alone.
-fn push(chosen: &mut [u16; PLACES], n: usize, c: usize)
+fn push(chosen: &mut [u16; PLACES], n: u16, c: usize)
     requires { ⌜ c < 65536 ⌝ }
     ensures { λ _. ⌜ now (chosen .exit) ≡ pushed (now (chosen .entry)) n c ⌝ }
 {
-    if n < PLACES {
-        chosen[n] = c as u16;
+    if (n as usize) < PLACES {
+        chosen[n as usize] = c as u16;
     }
 }
 
 // The candidates of a row, lowest first, after `from` others: how many there are then.
-fn choose(columns: u32, row: usize, from: usize, chosen: &mut [u16; PLACES]) -> usize
-    requires { ⌜ (row < 1024) × (from ≤ 65536) ⌝ }
+fn choose(columns: u32, row: usize, from: u16, chosen: &mut [u16; PLACES]) -> u16
+    requires { ⌜ (row < 1024) × (from + 32 ≤ mostPairs) ⌝ }
     ensures { λ r. ⌜ Chose (inRow row (members columns)) from (now (chosen .entry)) r (now (chosen .exit)) ⌝ }
 {
     let mut n = from;
@@ -137,14 +137,14 @@ fn choose(columns: u32, row: usize, from: usize, chosen: &mut [u16; PLACES]) -> 
 pub fn list<'a, 'b>(
     tables: &'a [u32; WORDS],
     chosen: &'a [u16; PLACES],
-    n: usize,
+    n: u16,
     out: &'b mut [Constraint],
 )
     requires { ⌜ (n ≤ 4096) × (n ≤ length (now out)) ⌝ }
     ensures { λ _. ⌜ now (out .exit) ≡ itemsBy (now (tables .entry)) (now (chosen .entry)) n ++ drop n (now (out .entry)) ⌝ }
 {
-    let mut i = 0;
-    while i < n {
+    let mut i: usize = 0;
+    while i < n as usize {
         out[i] = nth(tables, chosen, i);
         i += 1;
     }

@@ -38,10 +38,10 @@ fn rows(
     log: &[u8],
     t: usize,
     writers: &[u32; 32],
-    from: usize,
+    from: u16,
     out: &mut [u32; WORDS],
     chosen: &mut [u16; PLACES],
-) -> usize
+) -> u16
     requires { ⌜ InLog (now log) t × (t < 32) × (from ≤ 32 * startAt (now log) t) × PlainTable (now log) (startAt (now log) t) (now out) ⌝ }
     ensures { λ r. ⌜ PlainTable (now (log .entry)) (startAt (now (log .entry)) t + countAt (now (log .entry)) t) (now (out .exit))
         × Chose (plainNumbersOf (now (log .entry)) (now (writers .entry)) t (countAt (now (log .entry)) t)) from (now (chosen .entry)) r (now (chosen .exit)) ⌝ }
@@ -67,13 +67,13 @@ pub fn table(
     writers: &[u32; 32],
     out: &mut [u32; WORDS],
     chosen: &mut [u16; PLACES],
-) -> usize
+) -> u16
     requires { ⌜ (loadNumber (now log) ≡ 0) × (length (now out) ≡ 1025) ⌝ }
     ensures { λ r. ⌜ PlainTable (now (log .entry)) (operationsIn (now (log .entry))) (now (out .exit)) × (getD (now (out .exit)) 1024 0 ≡ 0)
         × Chose (plainNumbers (now (log .entry)) (now (writers .entry)) (transactionsIn (now (log .entry)))) 0 (now (chosen .entry)) r (now (chosen .exit)) ⌝ }
 {
     let n = log::transactions(log);
-    let mut count: usize = 0;
+    let mut count: u16 = 0;
     let mut t: usize = 0;
     while t < n {
         count = rows(log, t, writers, count, out, chosen);

@@ -1,9 +1,9 @@
 // The tables of runs of writes, for encodings 1 and 2.
 ghost use mathlib.Core.Path.{_≡_};
-ghost use Prim.Native.Nat.{_<_, _≤_};
+ghost use Prim.Native.Nat.{_<_, _≤_, _+_, _*_};
 ghost use Rattle.graph.specs.Members.{members};
 ghost use Rattle.polygraph.specs.Edges.{successorsBy};
-ghost use Rattle.listing.specs.Choosing.{Chose};
+ghost use Rattle.listing.specs.Choosing.{mostPairs, Chose};
 ghost use Rattle.listing.specs.Runs.{headBy, firstBy, tailBy, lastBy, sourcesBy, wordBy, wordsBy, pairsIn, isFew, keyWords, keyNumbers, runWords, runNumbers};
 use crate::ENCODING;
 use crate::PLACES;
@@ -111,8 +111,8 @@ fn words(
 }
 
 // The candidates of a key: each two of its runs, after `from` others.
-fn pairs(firsts: u32, k: usize, from: usize, chosen: &mut [u16; PLACES]) -> usize
-    requires { ⌜ (k < 32) × (from ≤ 32768) ⌝ }
+fn pairs(firsts: u32, k: usize, from: u16, chosen: &mut [u16; PLACES]) -> u16
+    requires { ⌜ (k < 32) × (from + 32 * 32 ≤ mostPairs) ⌝ }
     ensures { λ r. ⌜ Chose (pairsIn k (members firsts)) from (now (chosen .entry)) r (now (chosen .exit)) ⌝ }
 {
     let mut n = from;
@@ -142,11 +142,11 @@ fn key(
     writers: &[u32; 32],
     marks: &[u32; MARKS],
     k: usize,
-    from: usize,
+    from: u16,
     out: &mut [u32; WORDS],
     chosen: &mut [u16; PLACES],
-) -> usize
-    requires { ⌜ (k < 32) × (n ≤ 32) × (from ≤ 32768) ⌝ }
+) -> u16
+    requires { ⌜ (k < 32) × (n ≤ 32) × (from + 32 * 32 ≤ mostPairs) ⌝ }
     ensures { λ r. ⌜ (now (out .exit) ≡ keyWords encoding n (now (writers .entry)) (now (marks .entry)) (now (out .entry)) k)
         × Chose (keyNumbers encoding (now (writers .entry)) (now (marks .entry)) k) from (now (chosen .entry)) r (now (chosen .exit)) ⌝ }
 {
@@ -169,12 +169,12 @@ pub fn table(
     marks: &[u32; MARKS],
     out: &mut [u32; WORDS],
     chosen: &mut [u16; PLACES],
-) -> usize
+) -> u16
     requires { ⌜ n ≤ 32 ⌝ }
     ensures { λ r. ⌜ (now (out .exit) ≡ runWords encoding n (now (writers .entry)) (now (marks .entry)) (now (out .entry)))
         × Chose (runNumbers encoding (now (writers .entry)) (now (marks .entry))) 0 (now (chosen .entry)) r (now (chosen .exit)) ⌝ }
 {
-    let mut count: usize = 0;
+    let mut count: u16 = 0;
     let mut k: usize = 0;
     while k < 32 {
         count = key(encoding, n, writers, marks, k, count, out, chosen);

@@ -161,7 +161,7 @@ passes-iff n few o (suc m) p s =
 -- ---- the passes end because one drops none
 
 -- a pass adds no constraint, and one that drops none changes nothing
-pass-length : (cs : List Constraint) (g : List ℕ) → length (pass g cs .choices) ≤ length cs
+pub pass-length : (cs : List Constraint) (g : List ℕ) → length (pass g cs .choices) ≤ length cs
 unfolding pass
 pass-length [] g = omega arith
 pass-length (c ∷ cs) g =
@@ -329,7 +329,7 @@ unfolding polygraph
 polygraph-done h e = passes-done (length (constraints h e)) (unpruned h e) (omega arith)
 
 -- and leaves no more constraints than there were
-passes-length : (m : ℕ) (p : Polygraph) → length (passes m p .choices) ≤ length (p .choices)
+pub passes-length : (m : ℕ) (p : Polygraph) → length (passes m p .choices) ≤ length (p .choices)
 unfolding passes
 passes-length zero p = omega arith
 passes-length (suc m) p =

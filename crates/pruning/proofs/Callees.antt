@@ -3,11 +3,11 @@
 --     closure-says, side-says, extend-says, begin-says, after-says     `graph::closure`, `graph::add_side`, `graph::extend`, `begin` and `after`, by value
 --     skim-left        `skim`, which the list is lent to, beside the closed rows
 -- Assumes `Given`, and that the callee meets its contract.
-use Rattle.walk.proofs.Prelude.{_≡_, refl, _∙_, ℕ, _<_, _≤_, _^_, arith, List, [], _∷_, URA, fullShare, named, w64, Val, vint, vptr, SProp, ent, sep, guard, emp, exE, snd∗, Lft, Share, GName, Fml, flft, Memory, Routine, Heap, Calls, Atoms, sem, Fun, fact, Given, ‵, raw, some, _⊛_, _$_, _∵_, !, qed, move, keep, drop, split, join, pick, show, check, fsplit, fjoin, feqL, frame, done, FmC, MutSlice, finally, heard, nothing, says, tripleOf, Contract, Triple, ensured, lasts}
+use Rattle.walk.proofs.Prelude.{_≡_, refl, _∙_, ℕ, _<_, _≤_, _^_, arith, List, [], _∷_, URA, fullShare, named, w16, Val, vint, vptr, SProp, ent, sep, guard, emp, exE, snd∗, Lft, Share, GName, Fml, flft, Memory, Routine, Heap, Calls, Atoms, sem, Fun, fact, Given, ‵, raw, some, _⊛_, _$_, _∵_, !, qed, move, keep, drop, split, join, pick, show, check, fsplit, fjoin, feqL, frame, done, FmC, MutSlice, finally, heard, nothing, says, tripleOf, Contract, Triple, ensured, lasts}
 use denote.Ref.{RefT, ShrRef}
 use Rattle.walk.proofs.ByValue.{Says, Result, plainly, result-says}
 use Rattle.walk.proofs.Both.{LeftBoth, result-both}
-use Rattle.walk.proofs.Kind.{u8K, u32K, usizeK, wordsK, vals, Good, have}
+use Rattle.walk.proofs.Kind.{u8K, u16K, u32K, wordsK, vals, Good, have}
 use Rattle.walk.proofs.Lending.{Answer}
 use Rattle.walk.proofs.Sharing.{Shares, through, result-shares}
 use Rattle.walk.proofs.Slices.{lent, counted}
@@ -109,11 +109,11 @@ module _ {M : Type 1} (𝓤 : URA M) (H : Heap 𝓤) (A : Atoms 𝓤) (mem : Mem
           (Result (wordsK 32 .row) (Extended rs u v)) (result-says 𝓤 H A W (wordsK 32 .row) (ensured 𝓤 H A extend.ended (extend.clauses 𝓤 H A mem run) tt (rs, (u, (v, tt))) tt) (Extended rs u v)
           (λ w. exE 𝓤 _ (λ ws. snd∗ 𝓤 (sem 𝓤 H A (lasts extend.ended tt (rs, (u, (v, tt))) ws)) (fact 𝓤 (Extended rs u v w)))))
 
-    pub begin-says : Triple 𝓤 (C #pruning·begin) Begin → (n pruning : ℕ) → n < 2 ^ 64 → pruning < 2 ^ 8
-        → ent 𝓤 (emp 𝓤) (C #pruning·begin (usizeK .val n ∷ u8K .val pruning ∷ []) (Says 𝓤 H (Result (placeK .row) (λ r. r ≡ firstPlace n pruning))))
+    pub begin-says : Triple 𝓤 (C #pruning·begin) Begin → (n pruning : ℕ) → n < 2 ^ 16 → pruning < 2 ^ 8
+        → ent 𝓤 (emp 𝓤) (C #pruning·begin (u16K .val n ∷ u8K .val pruning ∷ []) (Says 𝓤 H (Result (placeK .row) (λ r. r ≡ firstPlace n pruning))))
     begin-says known n pruning n-fits pruning-fits =
-        plainly 𝓤 H (C #pruning·begin) (fm #pruning·begin) Begin known ((tt, tt, tt, (n, (pruning, tt)), (vals usizeK n, (vals u8K pruning, tt))), tt)
-        (qed W [] ∵ nothing ! $ have ! u8K pruning _ (refl, pruning-fits) $ fjoin ! $ have ! usizeK n _ (refl, n-fits) $ fjoin ! $ nothing ! $ join ! $ frame ! $ done !)
+        plainly 𝓤 H (C #pruning·begin) (fm #pruning·begin) Begin known ((tt, tt, tt, (n, (pruning, tt)), (vals u16K n, (vals u8K pruning, tt))), tt)
+        (qed W [] ∵ nothing ! $ have ! u8K pruning _ (refl, pruning-fits) $ fjoin ! $ have ! u16K n _ (refl, n-fits) $ fjoin ! $ nothing ! $ join ! $ frame ! $ done !)
         (Result (placeK .row) (λ r. r ≡ firstPlace n pruning)) (result-says 𝓤 H A W (placeK .row) (ensured 𝓤 H A begin.ended (begin.clauses 𝓤 H A mem run) tt (n, (pruning, tt)) tt) (λ r. r ≡ firstPlace n pruning)
         (λ w. exE 𝓤 _ (λ ws. snd∗ 𝓤 (sem 𝓤 H A (lasts begin.ended tt (n, (pruning, tt)) ws)) (fact 𝓤 (w ≡ firstPlace n pruning)))))
 
@@ -135,15 +135,15 @@ module _ {M : Type 1} (𝓤 : URA M) (H : Heap 𝓤) (A : Atoms 𝓤) (mem : Mem
       abbrev arg : (δ : GName) → RefT (List ℕ) × (RefT (List Constraint) × (ℕ × (ℕ × (ℕ × Unit {0}))))
       arg δ = (r, (lent b o δ ys, (p .at, (p .kept, (p .end, tt)))))
 
-      pub skim-left : Triple 𝓤 (C #pruning·skim) Skim → p .at < 2 ^ 64 → p .kept < 2 ^ 64 → p .end < 2 ^ 64 → (p .kept ≤ p .at) × (p .at ≤ p .end) × (p .end ≤ length ys) × Aims ys (p .end) → (ν : ℕ) (δ : GName)
+      pub skim-left : Triple 𝓤 (C #pruning·skim) Skim → p .at < 2 ^ 16 → p .kept < 2 ^ 16 → p .end < 2 ^ 16 → (p .kept ≤ p .at) × (p .at ≤ p .end) × (p .end ≤ length ys) × Aims ys (p .end) → (ν : ℕ) (δ : GName)
           → ent 𝓤 (sep 𝓤 (sep 𝓤 (A .lft (ν ∷ []) fullShare) (sem 𝓤 H A (MutSlice (named 1) (ν ∷ []) R .own (lent b o δ ys) (s ∷ [])))) (sep 𝓤 (sem 𝓤 H A Rows) (A .lft κ q)))
-          (C #pruning·skim (vptr (r .ptr .0) (r .ptr .1) ∷ s ∷ vint w64 (p .at) ∷ vint w64 (p .kept) ∷ vint w64 (p .end) ∷ []) (LeftBoth 𝓤 H A R m (Answer (hitK .row) (Skims (r .now) ys p)) κ q ν δ))
+          (C #pruning·skim (vptr (r .ptr .0) (r .ptr .1) ∷ s ∷ vint w16 (p .at) ∷ vint w16 (p .kept) ∷ vint w16 (p .end) ∷ []) (LeftBoth 𝓤 H A R m (Answer (hitK .row) (Skims (r .now) ys p)) κ q ν δ))
       skim-left known at-fits kept-fits end-fits within ν δ =
-          through 𝓤 H A (C #pruning·skim) (fm #pruning·skim) Skim known (((κ, (ν ∷ [], tt)), (q, (fullShare, tt)), tt, arg δ, (vptr (r .ptr .0) (r .ptr .1) ∷ [], (s ∷ [], (vint w64 (p .at) ∷ [], (vint w64 (p .kept) ∷ [], (vint w64 (p .end) ∷ [], tt)))))), tt)
+          through 𝓤 H A (C #pruning·skim) (fm #pruning·skim) Skim known (((κ, (ν ∷ [], tt)), (q, (fullShare, tt)), tt, arg δ, (vptr (r .ptr .0) (r .ptr .1) ∷ [], (s ∷ [], (vint w16 (p .at) ∷ [], (vint w16 (p .kept) ∷ [], (vint w16 (p .end) ∷ [], tt)))))), tt)
           (qed W ((‵ (flft (ν ∷ []) fullShare) ⊛ ‵ (MutSlice (named 1) (ν ∷ []) R .own (lent b o δ ys) (s ∷ []))) ∷ (‵ Rows ⊛ ‵ (flft κ q)) ∷ []) ∵ split ! $ move ! (2 ∷ []) $ split ! $ says ! within $
           -- [the rows; their token; the list's; the list]
           nothing ! $ move ! (3 ∷ 0 ∷ []) $ join ! $ move ! (2 ∷ 0 ∷ []) $ join ! $ frame ! $
-          nothing ! $ have ! usizeK (p .end) _ (refl, end-fits) $ fjoin ! $ have ! usizeK (p .kept) _ (refl, kept-fits) $ fjoin ! $ have ! usizeK (p .at) _ (refl, at-fits) $ fjoin ! $ move ! (2 ∷ 0 ∷ []) $ fjoin ! $ move ! (1 ∷ 0 ∷ []) $ fjoin ! $ done !)
+          nothing ! $ have ! u16K (p .end) _ (refl, end-fits) $ fjoin ! $ have ! u16K (p .kept) _ (refl, kept-fits) $ fjoin ! $ have ! u16K (p .at) _ (refl, at-fits) $ fjoin ! $ move ! (2 ∷ 0 ∷ []) $ fjoin ! $ move ! (1 ∷ 0 ∷ []) $ fjoin ! $ done !)
           (LeftBoth 𝓤 H A R m (Answer (hitK .row) (Skims (r .now) ys p)) κ q ν δ) (result-both 𝓤 H A W R (hitK .row) m κ q ν δ (ensured 𝓤 H A skim.ended (skim.clauses 𝓤 H A mem run) (κ, (ν ∷ [], tt)) (arg δ) tt) (Skims (r .now) ys p)
           (λ w. qed W (some (λ (ws : Unit {0} × (List Constraint × (Unit {0} × (Unit {0} × (Unit {0} × Unit {0}))))). ‵ (lasts skim.ended (κ, (ν ∷ [], tt)) (arg δ) ws) ⊛ raw (fact 𝓤 (Skims (r .now) ys p w (ws .1 .0)))) ∷ []) ∵ pick ! (λ ws. split ! $ move ! (1 ∷ []) $ heard ! (Skims (r .now) ys p w (ws .1 .0)) (λ e.
           fsplit ! $ drop ! $ fsplit ! $ fsplit ! $ move ! (1 ∷ []) $ feqL ! (λ len. show ! (λ (zs : List Constraint). guard 𝓤 (Skims (r .now) ys p w zs × (length zs ≡ m)) (sem 𝓤 H A (finally R δ zs))) (ws .1 .0) $ check ! (e, len ∙ e-ys) $ keep ! (0 ∷ []) $ done !)))))

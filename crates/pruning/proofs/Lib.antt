@@ -1,4 +1,5 @@
 pub mod Steps
+pub mod Counts
 pub mod Turns
 pub mod Zeros
 pub mod Data

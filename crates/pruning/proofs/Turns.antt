@@ -24,7 +24,8 @@ use Rattle.graph.proofs.Rows.{Small, point-is}
 use Rattle.pruning.specs.declared.Resolution.{Resolution}
 use Rattle.pruning.specs.declared.Place.{Place}
 use Rattle.pruning.specs.declared.Hit.{Hit}
-use Rattle.pruning.specs.Passes.{LowTargets, Aims, picked, resolution, resolutionOf, choosePlace, firstPlace, nextPlace, rest, pruned, settled, Skimmed, Pruning}
+use Rattle.pruning.specs.Passes.{LowTargets, Aims, picked, resolution, resolutionOf, choosePlace, firstPlace, nextPlace, PlaceWithin, rest, pruned, settled, Skimmed, Pruning}
+use Rattle.pruning.proofs.Counts.{HitWithin, start-counts, skim-counts, hit-counts, new-counts, last-counts}
 use Rattle.pruning.proofs.Steps.{graph, picked-low, rest-start, rest-stays, rest-drops, rest-end, pruned-step}
 
 -- ---- a skim
@@ -46,13 +47,14 @@ module _ (closed : List ℕ) (ys : List Constraint) (at kept end : ℕ) where
     pub low : at ≤ i
     pub high : i ≤ end
     pub behind : j ≤ i
+    pub grown : j + at ≡ kept + i
     pub len : length l ≡ length ys
     pub back : drop end l ≡ drop end ys
     pub aims : Aims l end
     pub same : (g : List ℕ) → closed ≡ reach g → rest g l i j end ≡ rest g ys at kept end
 
   pub upto-none : kept ≤ at → at ≤ end → Aims ys end → Upto at kept ys
-  upto-none a b c = record { low = omega arith; high = b; behind = a; len = refl; back = refl; aims = c; same = λ g e. refl }
+  upto-none a b c = record { low = omega arith; high = b; behind = a; grown = refl; len = refl; back = refl; aims = c; same = λ g e. refl }
 
   module _ (i j : ℕ) (l : List Constraint) (v : Resolution) (u : Upto i j l) (long : end ≤ length ys) (says : (g : List ℕ) → closed ≡ reach g → v ≡ resolutionOf g (getD l i noConstraint)) where
     pub upto-next : i < end → v .drops ≡ false → Upto (i + 1) (j + 1) (set l j (getD l i noConstraint))
@@ -61,6 +63,7 @@ module _ (closed : List ℕ) (ys : List Constraint) (at kept end : ℕ) where
       low = omega (arith, u .low);
       high = omega arith;
       behind = omega (arith, u .behind);
+      grown = omega (arith, u .grown);
       len = length-set l j (getD l i noConstraint) ∙ u .len;
       back = drop-set-lt end l j (getD l i noConstraint) (omega (arith, u .behind)) ∙ u .back;
       aims = aims-set l i j end (u .behind) h (omega (arith, u .len)) (u .aims);
@@ -78,6 +81,7 @@ module _ (closed : List ℕ) (ys : List Constraint) (at kept end : ℕ) where
       low = u .low;
       high = u .high;
       behind = u .behind;
+      grown = u .grown;
       same = u .same g e;
       back = u .back;
       aims = u .aims;
@@ -94,6 +98,7 @@ module _ (closed : List ℕ) (ys : List Constraint) (at kept end : ℕ) where
     low = u .low;
     high = u .high;
     behind = u .behind;
+    grown = u .grown;
     same = u .same g e;
     back = u .back;
     aims = u .aims;
@@ -133,9 +138,7 @@ module _ (rows : List ℕ) (ys : List Constraint) (n pruning : ℕ) where
   goal = settled pruning (graph rows (take n ys))
 
   pub record Stands (g : List ℕ) (l : List Constraint) (p : Place) : Type 0 where
-    pub low : p .kept ≤ p .at
-    pub high : p .at ≤ p .end
-    pub within : p .end ≤ n
+    pub inside : PlaceWithin n p
     pub len : length l ≡ length ys
     pub back : drop n l ≡ drop n ys
     pub aims : Aims l (p .end)
@@ -157,18 +160,14 @@ module _ (rows : List ℕ) (ys : List Constraint) (n pruning : ℕ) where
     where
       go : (b : Bool) → eqb pruning 1 ≡ b → Stands rows ys (choosePlace b (record { at = 0; kept = 0; end = n; on = true }) (record { at = n; kept = n; end = n; on = false }))
       go true e = record {
-        low = omega arith;
-        high = omega arith;
-        within = omega arith;
+        inside = start-counts n true;
         len = refl;
         back = refl;
         aims = aims;
         known = ap (λ (b : Bool). cond b (pruned (graph rows (take n ys))) (graph rows (take n ys))) e ∙ onward-start rows ys n h;
       }
       go false e = record {
-        low = omega arith;
-        high = omega arith;
-        within = omega arith;
+        inside = start-counts n false;
         len = refl;
         back = refl;
         aims = aims;
@@ -180,6 +179,9 @@ module _ (rows : List ℕ) (ys : List Constraint) (n pruning : ℕ) where
     abbrev q : Polygraph
     q = rest g zs (h .at) (h .kept) (p .end)
 
+    met : HitWithin p h
+    met = skim-counts g l zs p h k
+
     stops : goal ≡ cond (eqb (length (q .choices)) (p .end)) q (pruned q)
     unfolding onward
     stops =
@@ -188,7 +190,7 @@ module _ (rows : List ℕ) (ys : List Constraint) (n pruning : ℕ) where
 
     -- the places from n on are as they were
     back-n : drop n zs ≡ drop n ys
-    back-n = dropped (s .within) (k .back) ∙ s .back
+    back-n = dropped (s .inside .top) (k .back) ∙ s .back
       where
         dropped : {m : ℕ} → m ≤ n → drop m zs ≡ drop m l → drop n zs ≡ drop n l
         dropped {m} le e =
@@ -201,13 +203,11 @@ module _ (rows : List ℕ) (ys : List Constraint) (n pruning : ℕ) where
     hit-on : h .at < p .end → Next (record { at = h .at + 1; kept = h .kept; end = p .end; on = true })
     unfolding onward
     hit-on less = record {
-      low = omega (arith, k .behind);
-      high = omega arith;
-      within = s .within;
+      inside = hit-counts n p h (s .inside) met less;
       len = len;
       back = back-n;
       aims = k .aims;
-      known = stops ∙ ap (λ (x : Polygraph). cond (eqb (length (x .choices)) (p .end)) x (pruned x)) (rest-drops g zs (h .at) (h .kept) (p .end) (h .from) (h .to) less (omega (arith, s .within)) (k .hit less));
+      known = stops ∙ ap (λ (x : Polygraph). cond (eqb (length (x .choices)) (p .end)) x (pruned x)) (rest-drops g zs (h .at) (h .kept) (p .end) (h .from) (h .to) less (omega (arith, s .inside .top)) (k .hit less));
     }
 
     module _ (over : p .end ≤ h .at) where
@@ -218,7 +218,7 @@ module _ (rows : List ℕ) (ys : List Constraint) (n pruning : ℕ) where
       passed = rest-end g zs (h .at) (h .kept) (p .end) over
 
       kept-in : h .kept ≤ length zs
-      kept-in = omega (arith, k .behind, k .high, s .within)
+      kept-in = omega (arith, k .behind, k .high, s .inside .top)
 
       stops-at : goal ≡ cond (eqb (h .kept) (p .end)) (graph g (take (h .kept) zs)) (pruned (graph g (take (h .kept) zs)))
       stops-at =
@@ -227,9 +227,7 @@ module _ (rows : List ℕ) (ys : List Constraint) (n pruning : ℕ) where
 
       hit-new : h .kept < p .end → Next (record { at = 0; kept = 0; end = h .kept; on = true })
       hit-new fewer = record {
-        low = omega arith;
-        high = omega arith;
-        within = omega (arith, s .within);
+        inside = new-counts n p h (s .inside) met;
         len = len;
         back = back-n;
         aims = λ m less. k .aims m (omega arith);
@@ -242,9 +240,7 @@ module _ (rows : List ℕ) (ys : List Constraint) (n pruning : ℕ) where
       hit-last none-dropped =
           let e : h .kept ≡ p .end = omega (arith, k .behind, k .high) in
           record {
-            low = k .behind;
-            high = k .high;
-            within = s .within;
+            inside = last-counts n p h (s .inside) met;
             len = len;
             back = back-n;
             aims = k .aims;
@@ -268,8 +264,8 @@ module _ (rows : List ℕ) (ys : List Constraint) (n pruning : ℕ) where
   stands-end g l p s off fits =
       let e : goal ≡ graph g (take (p .kept) l) = s .known ∙ ap (λ (m : Bool). onward m g l (p .at) (p .kept) (p .end)) off in
       record {
-        few = omega (arith, s .low, s .high, s .within);
-        left-is = sym (ap (λ (x : Polygraph). length (x .choices)) e ∙ length-first l (p .kept) (omega (arith, s .low, s .high, s .within, s .len)));
+        few = omega (arith, s .inside .low, s .inside .high, s .inside .top);
+        left-is = sym (ap (λ (x : Polygraph). length (x .choices)) e ∙ length-first l (p .kept) (omega (arith, s .inside .low, s .inside .high, s .inside .top, s .len)));
         rows-are = sym (ap (λ (x : Polygraph). x .known) e);
         front = sym (ap (λ (x : Polygraph). x .choices) e);
         back = s .back;

@@ -48,6 +48,12 @@ nextPlace p h =
     choosePlace (ltb (h .at) (p .end)) (record { at = h .at + 1; kept = h .kept; end = p .end; on = true })
     (choosePlace (ltb (h .kept) (p .end)) (record { at = 0; kept = 0; end = h .kept; on = true }) (record { at = h .at; kept = h .kept; end = p .end; on = false }))
 
+-- the counts of a pass over n constraints: what is kept lies behind where it stands, and its end is no further than n
+pub record PlaceWithin (n : ℕ) (p : Place) : Type 0 where
+  pub low : p .kept ≤ p .at
+  pub high : p .at ≤ p .end
+  pub top : p .end ≤ n
+
 -- the constraints from i on, below the end
 abbrev pub part : List Constraint → ℕ → ℕ → List Constraint
 part l i end = take (end - i) (drop i l)
@@ -68,11 +74,12 @@ pruned p = passes (length (p .choices)) p
 unfoldable pub settled : ℕ → Polygraph → Polygraph
 settled pruning p = cond (eqb pruning 1) (pruned p) p
 
--- what a skim from (at, kept) of ys leaves, with its result r: the same is left of the pass, and r is where the next constraint is dropped, or the end
+-- what a skim from (at, kept) of ys leaves, with its result r: the same is left of the pass, r is where the next constraint is dropped, or the end, and each one before it was kept
 pub record Skimmed (g : List ℕ) (ys : List Constraint) (at kept end : ℕ) (r : Hit) (zs : List Constraint) : Type 0 where
   pub low : at ≤ r .at
   pub high : r .at ≤ end
   pub behind : r .kept ≤ r .at
+  pub grown : r .kept + at ≡ kept + r .at
   pub same : rest g zs (r .at) (r .kept) end ≡ rest g ys at kept end
   pub back : drop end zs ≡ drop end ys
   pub aims : Aims zs end

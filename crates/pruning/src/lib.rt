@@ -19,17 +19,18 @@ struct Resolution {
 }
 
 // Where a pass stands: at the constraint `at` of those below `end`, with `kept` at the front. No pass is `on` once one has dropped none.
-struct Place {
-    pub at: usize,
-    pub kept: usize,
-    pub end: usize,
+// This and `Hit` are public for what `answers` says of their counts.
+pub struct Place {
+    pub at: u16,
+    pub kept: u16,
+    pub end: u16,
     pub on: bool,
 }
 
 // The next constraint that is dropped, with the side that is added, or the end of the pass, with no edges to add.
-struct Hit {
-    pub at: usize,
-    pub kept: usize,
+pub struct Hit {
+    pub at: u16,
+    pub kept: u16,
     pub from: u32,
     pub to: u32,
 }
@@ -37,7 +38,7 @@ struct Hit {
 // The known edges as pruning leaves them, and the count of constraints left.
 pub struct Pruned {
     pub rows: [u32; 32],
-    pub left: usize,
+    pub left: u16,
 }
 
 // x where side A is closed off, else y where side B is, else 0.
@@ -76,9 +77,9 @@ fn judge(closed: &[u32; 32], c: Constraint) -> Resolution
 fn skim<'a, 'b>(
     closed: &'a [u32; 32],
     list: &'b mut [Constraint],
-    at: usize,
-    kept: usize,
-    end: usize,
+    at: u16,
+    kept: u16,
+    end: u16,
 ) -> Hit
     requires { ⌜ (kept ≤ at) × (at ≤ end) × (end ≤ length (now list)) × Aims (now list) end ⌝ }
     ensures { λ r. ⌜ ((g : List ℕ) → now (closed .entry) ≡ reach g → Skimmed g (now (list .entry)) at kept end r (now (list .exit))) ⌝ }
@@ -91,12 +92,12 @@ fn skim<'a, 'b>(
         to: 0,
     };
     while i < end {
-        let c = list[i];
+        let c = list[i as usize];
         v = judge(closed, c);
         if v.drops {
             break;
         }
-        list[j] = c;
+        list[j as usize] = c;
         j += 1;
         i += 1;
     }
@@ -138,7 +139,7 @@ fn after(p: Place, h: Hit) -> Place
 }
 
 // Where pruning of n constraints starts; with pruning 0 all are kept, and no pass is on.
-fn begin(n: usize, pruning: u8) -> Place
+fn begin(n: u16, pruning: u8) -> Place
     ensures { λ r. ⌜ r ≡ firstPlace n pruning ⌝ }
 {
     if pruning == 1 {
@@ -159,7 +160,7 @@ fn begin(n: usize, pruning: u8) -> Place
 }
 
 // With pruning 1, passes over the first n constraints, until one drops none: those left stand first, in their order. A thin loop, proved by hand.
-pub fn prune(rows: [u32; 32], list: &mut [Constraint], n: usize, pruning: u8) -> Pruned
+pub fn prune(rows: [u32; 32], list: &mut [Constraint], n: u16, pruning: u8) -> Pruned
     requires { ⌜ (n ≤ length (now list)) × Aims (now list) n ⌝ }
     ensures { λ r. ⌜ Pruning rows (now (list .entry)) n pruning r (now (list .exit)) ⌝ }
 {
@@ -181,7 +182,7 @@ pub fn prune(rows: [u32; 32], list: &mut [Constraint], n: usize, pruning: u8) ->
 }
 
 // Four zeros in each place from `from` on, below `end`: a thin loop, proved by hand.
-pub fn clear(list: &mut [Constraint], from: usize, end: usize)
+pub fn clear(list: &mut [Constraint], from: u16, end: u16)
     requires { ⌜ (from ≤ end) × (end ≤ length (now list)) ⌝ }
     ensures { λ _. ⌜ now (list .exit) ≡ take from (now (list .entry)) ++ (replicate (end - from) noConstraint ++ drop end (now (list .entry))) ⌝ }
 {
@@ -191,8 +192,8 @@ pub fn clear(list: &mut [Constraint], from: usize, end: usize)
         fromB: 0,
         toB: 0,
     };
-    let mut i = from;
-    while i < end {
+    let mut i = from as usize;
+    while i < end as usize {
         list[i] = zeros;
         i += 1;
     }

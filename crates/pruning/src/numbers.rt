@@ -28,17 +28,17 @@ fn resolve(rows: &mut [u32; 32], c: Constraint) -> bool
 }
 
 // One pass over the first n numbers; how many stay.
-fn pass(rows: &mut [u32; 32], tables: &[u32; WORDS], chosen: &mut [u16; PLACES], n: usize) -> usize
+fn pass(rows: &mut [u32; 32], tables: &[u32; WORDS], chosen: &mut [u16; PLACES], n: u16) -> u16
     requires { ⌜ n ≤ 4096 ⌝ }
     ensures { λ r. ⌜ (r ≤ n) × ((g : List ℕ) → now (rows .entry) ≡ reach g → Tidy g
         → PrunedTo (Rattle.model.specs.Polygraph.pass g (itemsBy (now (tables .entry)) (now (chosen .entry)) n)) (now (tables .entry)) (now (chosen .exit)) r (now (rows .exit))) ⌝ }
 {
-    let mut kept: usize = 0;
+    let mut kept: u16 = 0;
     let mut i: usize = 0;
-    while i < n {
+    while i < n as usize {
         let c = chosen[i];
         let drops = resolve(rows, listing::nth(tables, chosen, i));
-        chosen[kept] = c;
+        chosen[kept as usize] = c;
         kept += if drops { 0 } else { 1 };
         i += 1;
     }
@@ -46,12 +46,7 @@ fn pass(rows: &mut [u32; 32], tables: &[u32; WORDS], chosen: &mut [u16; PLACES],
 }
 
 // Passes over the first n numbers until one drops none; how many stay.
-pub fn prune(
-    rows: &mut [u32; 32],
-    tables: &[u32; WORDS],
-    chosen: &mut [u16; PLACES],
-    n: usize,
-) -> usize
+pub fn prune(rows: &mut [u32; 32], tables: &[u32; WORDS], chosen: &mut [u16; PLACES], n: u16) -> u16
     requires { ⌜ n ≤ 4096 ⌝ }
     ensures { λ r. ⌜ (r ≤ n) × ((g : List ℕ) → now (rows .entry) ≡ reach g → Tidy g
         → PrunedTo (pruned (record { known = g; choices = itemsBy (now (tables .entry)) (now (chosen .entry)) n })) (now (tables .entry)) (now (chosen .exit)) r (now (rows .exit))) ⌝ }

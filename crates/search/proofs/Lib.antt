@@ -1,5 +1,6 @@
 pub mod Words
 pub mod Steps
+pub mod Counts
 pub mod Puts
 pub mod Exact
 pub mod Opens

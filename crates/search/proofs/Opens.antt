@@ -18,7 +18,8 @@ use Rattle.model.proofs.Basics.{clash, decide, same?, eq-T, false-eq, iff-eq, a
 use Rattle.model.proofs.Masks.{bit-none}
 use Rattle.model.proofs.Closed.{fewer, fewer-at}
 use Rattle.search.specs.Constraints.{conAt, isOpen, openCount, Fit, Dropped}
-use Rattle.search.specs.Steps.{PartialOrder, shut, Last, Taken, Grown, Narrowed, PrunedState, NextOpen, HitIn, NextHit, NextChoice}
+use Rattle.search.specs.Steps.{PartialOrder, shut, Last, Taken, Grown, Narrowed, PrunedState, Turning, NextOpen, HitIn, NextHit, NextChoice}
+use Rattle.search.proofs.Counts.{turn-first, turn-hit, turn-again}
 use Rattle.search.proofs.Exact.{Run, run-none, run-next, run-stuck, run-again, run-end}
 use Rattle.graph.proofs.WordLaws.{and-not}
 use Rattle.search.proofs.Words.{zero-list, low-set, low-none, low-small}
@@ -155,13 +156,14 @@ module _ (l : List ℕ) (i set : ℕ) (f : (b : ℕ) → bit set b ≡ (bit (get
         clash (bit set (j % 32)) x (subst (λ (y : ℕ). T (not (bit y (j % 32)))) (sym e) (subst (λ (y : Bool). T (not y)) (sym (bit-none (j % 32))) tt)))
         (decide (ltb j i))
 
-    pub next-found : (set ≡ 0 → ⊥) → set < 2 ^ 32 → NextOpen l from n (i / 32 * 32 + trailingZeros 32 set)
-    next-found ne small =
+    pub next-found : Fit l n → (set ≡ 0 → ⊥) → set < 2 ^ 32 → NextOpen l from n (i / 32 * 32 + trailingZeros 32 set)
+    next-found fit ne small =
         let b = trailingZeros 32 set in
         let top = low-small set ne small in
         let z = word-out b top (low-set set ne small) in
         record {
           bound = omega arith;
+          top = omega (arith, fit (i / 32 * 32 + b) (z .0));
           some = λ q. z .0;
           none = λ j a k o.
               ⊎-elim (λ (c : T (ltb j i)). g j a (ltb→lt j i c) o)
@@ -171,7 +173,7 @@ module _ (l : List ℕ) (i set : ℕ) (f : (b : ℕ) → bit set b ≡ (bit (get
               (decide (ltb j i));
         }
 
-  module _ (w c : List ℕ) (from stop : ℕ) (h : from ≤ i) (g : (j : ℕ) → from ≤ j → j < stop → j < i → T (isOpen l j) → T (not (shut c (conAt w j)))) (b : ℕ) (x : HitIn w c (i / 32 * 32) set b) where
+  module _ (w c : List ℕ) (from stop n : ℕ) (h : from ≤ i) (g : (j : ℕ) → from ≤ j → j < stop → j < i → T (isOpen l j) → T (not (shut c (conAt w j)))) (b : ℕ) (x : HitIn w c (i / 32 * 32) set b) where
     none-here : (j : ℕ) → from ≤ j → j < stop → j < i / 32 * 32 + b → j < i / 32 * 32 + 32 → T (isOpen l j) → T (not (shut c (conAt w j)))
     none-here j a s k k′ o =
         ⊎-elim (λ (q : T (ltb j i)). g j a s (ltb→lt j i q) o)
@@ -180,30 +182,30 @@ module _ (l : List ℕ) (i set : ℕ) (f : (b : ℕ) → bit set b ≡ (bit (get
         subst (λ (z : ℕ). T (not (shut c (conAt w z)))) (sym (y .1)) (x .none (j % 32) (omega (arith, y .1)) (y .0)))
         (decide (ltb j i))
 
-    pub hit-found : b < 32 → NextHit w c l from stop (i / 32 * 32 + b)
-    hit-found k =
+    pub hit-found : Fit l n → b < 32 → NextHit w c l from stop n (i / 32 * 32 + b)
+    hit-found fit k =
         let y = x .some k in
         let z = word-out b k (y .0) in
-        record { bound = omega (arith, z .1); some = λ q. (z .0, y .1); none = λ j a s q. none-here j a s q (omega arith) }
+        record { bound = omega (arith, z .1); top = omega (arith, fit (i / 32 * 32 + b) (z .0)); some = λ q. (z .0, y .1); none = λ j a s q. none-here j a s q (omega arith) }
 
     pub hit-skip : 32 ≤ b → (j : ℕ) → from ≤ j → j < stop → j < i / 32 * 32 + 32 → T (isOpen l j) → T (not (shut c (conAt w j)))
     hit-skip k j a s q o = none-here j a s (omega arith) q o
 
 pub next-none : (l : List ℕ) (n from i : ℕ) → ((j : ℕ) → from ≤ j → j < i → T (isOpen l j) → ⊥) → from ≤ n → n ≤ i → NextOpen l from n n
-next-none l n from i f k e = record { bound = k; some = λ q. absurd (omega arith); none = λ j a b o. f j a (omega arith) o }
+next-none l n from i f k e = record { bound = k; top = omega arith; some = λ q. absurd (omega arith); none = λ j a b o. f j a (omega arith) o }
 
-pub hit-none : (w c l : List ℕ) (from stop i : ℕ) → ((j : ℕ) → from ≤ j → j < stop → j < i → T (isOpen l j) → T (not (shut c (conAt w j)))) → from ≤ stop → stop ≤ i → NextHit w c l from stop stop
-hit-none w c l from stop i f k e = record { bound = k; some = λ q. absurd (omega arith); none = λ j a s b o. f j a s (omega arith) o }
+pub hit-none : (w c l : List ℕ) (from stop n i : ℕ) → ((j : ℕ) → from ≤ j → j < stop → j < i → T (isOpen l j) → T (not (shut c (conAt w j)))) → from ≤ stop → stop ≤ n → stop ≤ i → NextHit w c l from stop n stop
+hit-none w c l from stop n i f k top e = record { bound = k; top = top; some = λ q. absurd (omega arith); none = λ j a s b o. f j a s (omega arith) o }
 
 module _ (w c l : List ℕ) (n i j : ℕ) (f : (k : ℕ) → k < i → T (isOpen l k) → T (held c (conAt w k))) (x : NextOpen l i n j) where
   before : (k : ℕ) → k < j → T (isOpen l k) → T (held c (conAt w k))
   before k h o = ⊎-elim (λ (q : T (ltb k i)). f k (ltb→lt k i q) o) (λ q. absurd (x .none k (nltb→le k i q) h o)) (decide (ltb k i))
 
   pub choice-none : n ≤ j → NextChoice w c l n n
-  choice-none h = record { some = λ q. absurd (omega arith); none = λ k q o. before k (omega arith) o }
+  choice-none h = record { top = omega arith; some = λ q. absurd (omega arith); none = λ k q o. before k (omega arith) o }
 
   pub choice-found : j < n → T (not (held c (conAt w j))) → NextChoice w c l n j
-  choice-found h t = record { some = λ q. (x .some q, t); none = before }
+  choice-found h t = record { top = omega arith; some = λ q. (x .some q, t); none = before }
 
   pub choice-next : T (held c (conAt w j)) → (k : ℕ) → k < j + 1 → T (isOpen l k) → T (held c (conAt w k))
   choice-next t k h o =
@@ -238,9 +240,7 @@ module _ (w : List ℕ) (n : ℕ) where
   -- the loop: every open constraint is among those from i to stop, or below again, or has no side closed off
   pub record Pruning (c l d m : List ℕ) (i stop again : ℕ) : Type 0 where
     pub narrowed : Narrowed w n c l d m
-    pub from : i ≤ stop
-    pub stops : stop ≤ n
-    pub behind : again ≤ i
+    pub turning : Turning n i stop again
     pub run : (g : List ℕ) → Tidy g → c ≡ reach g → Run w n g l d m i
     pub seen : (j : ℕ) → T (isOpen m j) → (j < i) ⊎ (stop ≤ j) → again ≤ j → T (not (shut d (conAt w j)))
 
@@ -248,21 +248,19 @@ module _ (w : List ℕ) (n : ℕ) where
   pruning-none c l p fit =
       record {
         narrowed = narrow-none c l p;
-        from = omega arith;
-        stops = omega arith;
-        behind = omega arith;
+        turning = turn-first n;
         run = λ g ti e. run-none w n g l c ti e;
         seen = λ j o x a. ⊎-elim (λ (y : j < 0). absurd (omega arith)) (λ (y : n ≤ j). absurd (omega (arith, fit j o))) x;
       }
 
-  module _ (c l d m : List ℕ) (fit : Fit l n) (i stop again : ℕ) (g : Pruning c l d m i stop again) (at : ℕ) (x : NextHit w d m i stop at) where
+  module _ (c l d m : List ℕ) (fit : Fit l n) (i stop again : ℕ) (g : Pruning c l d m i stop again) (at : ℕ) (x : NextHit w d m i stop n at) where
     -- a hit
     module _ (h : at < stop) (k : Constraint) (is : k ≡ conAt w at) (from to : ℕ) (last : Last d k from to) where
       side : Last d (conAt w at) from to
       side = subst (λ (x : Constraint). Last d x from to) is last
 
       hn : at < n
-      hn = omega (arith, g .stops)
+      hn = omega (arith, g .turning .stops)
 
       pub pruning-next : (e : List ℕ) → Taken d e from to → (m′ : List ℕ) → Dropped m at m′ → Pruning c l e m′ (at + 1) n at
       pruning-next e taken m′ drop =
@@ -270,9 +268,7 @@ module _ (w : List ℕ) (n : ℕ) where
           let all = narrow-then c l d m e m′ (g .narrowed) (narrow-one d m e m′ at hn (g .narrowed .grown .partial) (y .0) (y .1) drop) in
           record {
             narrowed = all;
-            from = omega (arith, hn);
-            stops = omega arith;
-            behind = omega arith;
+            turning = turn-hit n i stop again at (g .turning) h;
             run = λ g′ ti q. run-next w n g′ l d m i (g .run g′ ti q) at (x .bound) hn (x .some h .0) (λ j a b o. x .none j a (omega arith) b o) from to side e (taken .is) m′ drop;
             seen = λ j o y a.
                 ⊎-elim
@@ -302,10 +298,8 @@ module _ (w : List ℕ) (n : ℕ) where
       pruning-again =
           record {
             narrowed = g .narrowed;
-            from = omega arith;
-            stops = omega (arith, g .behind, g .from, g .stops);
-            behind = omega arith;
-            run = λ g′ ti e. run-again w n g′ l d m i (g .run g′ ti e) (omega (arith, g .from, g .stops)) (λ j a b o. none-left j o (omega (arith, g .behind)));
+            turning = turn-again n i stop again (g .turning);
+            run = λ g′ ti e. run-again w n g′ l d m i (g .run g′ ti e) (omega (arith, g .turning .from, g .turning .stops)) (λ j a b o. none-left j o (omega (arith, g .turning .behind)));
             seen = λ j o y a. ⊎-elim (λ (b : j < 0). absurd (omega arith)) (λ (b : again ≤ j). none-left j o b) y;
           }
 
@@ -315,5 +309,5 @@ module _ (w : List ℕ) (n : ℕ) where
             narrowed = λ q. g .narrowed;
             done = λ q j o. none-left j o (omega arith);
             hopeless = λ q. no-true q;
-            exact = λ g′ ti q. run-end w n g′ l d m i (g .run g′ ti q) (omega (arith, g .from, g .stops)) (λ j a o. none-left j o (omega arith));
+            exact = λ g′ ti q. run-end w n g′ l d m i (g .run g′ ti q) (omega (arith, g .turning .from, g .turning .stops)) (λ j a o. none-left j o (omega arith));
           }

@@ -93,21 +93,30 @@ openPairs c = length (keep (λ k. apart c (k / 32) (k % 32)) (upTo 1024))
 -- the first open constraint from `from` on, or n
 pub record NextOpen (l : List ℕ) (from n r : ℕ) : Type 0 where
   pub bound : from ≤ r
+  pub top : r ≤ n
   pub some : r < n → T (isOpen l r)
   pub none : (i : ℕ) → from ≤ i → i < r → T (isOpen l i) → ⊥
+
+-- the counts of pruning in the search, from turn to turn: of n constraints those from i to `stop` are still to be looked at, and then those below `again`
+pub record Turning (n i stop again : ℕ) : Type 0 where
+  pub from : i ≤ stop
+  pub stops : stop ≤ n
+  pub behind : again ≤ i
 
 -- the first of 32 constraints from `base` on that is in the set and has a side closed off, or 32
 pub record HitIn (w c : List ℕ) (base set r : ℕ) : Type 0 where
   pub some : r < 32 → T (bit set r) × T (shut c (conAt w (base + r)))
   pub none : (b : ℕ) → b < r → T (bit set b) → T (not (shut c (conAt w (base + b))))
 
--- the first open constraint from `from` on that has a side closed off, or none before `stop`
-pub record NextHit (w c l : List ℕ) (from stop r : ℕ) : Type 0 where
+-- the first open constraint from `from` on that has a side closed off, or none before `stop`; in any case one of n, or n
+pub record NextHit (w c l : List ℕ) (from stop n r : ℕ) : Type 0 where
   pub bound : from ≤ r
+  pub top : r ≤ n
   pub some : r < stop → T (isOpen l r) × T (shut c (conAt w r))
   pub none : (j : ℕ) → from ≤ j → j < stop → j < r → T (isOpen l j) → T (not (shut c (conAt w j)))
 
 -- the first open constraint of which no side is there whole, or n
 pub record NextChoice (w c l : List ℕ) (n r : ℕ) : Type 0 where
+  pub top : r ≤ n
   pub some : r < n → T (isOpen l r) × T (not (held c (conAt w r)))
   pub none : (j : ℕ) → j < r → T (isOpen l j) → T (held c (conAt w j))

@@ -79,7 +79,7 @@ fn shut(rows: &[u32; 32], k: Constraint) -> bool
 }
 
 // The first of 32 constraints from `base` on that is in the set and has a side closed off, or 32.
-fn hit_in(rows: &[u32; 32], words: &[u32], base: usize, set: u32, n: usize) -> u32
+fn hit_in(rows: &[u32; 32], words: &[u32], base: usize, set: u32, n: u16) -> u32
     requires { ⌜ ((b : ℕ) → T (bit set b) → base + b < n) × (reach (now rows) ≡ now rows) × Given (now words) n ⌝ }
     ensures { λ r. ⌜ HitIn (now (words .entry)) (now (rows .entry)) base set r ⌝ }
 {
@@ -95,20 +95,20 @@ fn hit_in(rows: &[u32; 32], words: &[u32], base: usize, set: u32, n: usize) -> u
     32
 }
 
-// The first open constraint from `from` on that has a side closed off; `stop` or more where none before `stop` has.
+// The first open constraint from `from` on that has a side closed off; `stop` or more, and at most n, where none before `stop` has.
 fn next_hit(
     rows: &[u32; 32],
     left: &[u32; 128],
     words: &[u32],
     from: usize,
-    stop: usize,
-    n: usize,
+    stop: u16,
+    n: u16,
 ) -> usize
     requires { ⌜ (from ≤ stop) × (stop ≤ n) × (reach (now rows) ≡ now rows) × Fit (now left) n × Given (now words) n ⌝ }
-    ensures { λ r. ⌜ NextHit (now (words .entry)) (now (rows .entry)) (now (left .entry)) from stop r ⌝ }
+    ensures { λ r. ⌜ NextHit (now (words .entry)) (now (rows .entry)) (now (left .entry)) from stop n r ⌝ }
 {
     let mut i = from;
-    while i < stop {
+    while i < stop as usize {
         let w = i / 32;
         let set = bits_from(left[w], (i % 32) as u32);
         let b = hit_in(rows, words, w * 32, set, n);
@@ -117,7 +117,7 @@ fn next_hit(
         }
         i = w * 32 + 32;
     }
-    stop
+    stop as usize
 }
 
 // Closed row words with a side, closed again.
@@ -156,17 +156,17 @@ pub(crate) fn drop_at(left: &mut [u32; 128], i: usize)
 
 // Passes until one drops none. A constraint that was looked at after the last drop need not be looked at again,
 // so those from i to `stop` are left, and then those below `again`.
-pub(crate) fn prune(rows: [u32; 32], left: &mut [u32; 128], words: &[u32], n: usize) -> State
+pub(crate) fn prune(rows: [u32; 32], left: &mut [u32; 128], words: &[u32], n: u16) -> State
     requires { ⌜ Ready (now words) n rows (now left) ⌝ }
     ensures { λ r. ⌜ PrunedState (now (words .entry)) n rows (now (left .entry)) (r .stuck) (r .rows) (now (left .exit)) ⌝ }
 {
     let mut c = rows;
     let mut i: usize = 0;
     let mut stop = n;
-    let mut again: usize = 0;
+    let mut again: u16 = 0;
     loop {
         let at = next_hit(&c, left, words, i, stop, n);
-        if at < stop {
+        if at < stop as usize {
             let k = constraint_at(words, at);
             let side = last_side(&c, k);
             let from = side.from;
@@ -182,7 +182,7 @@ pub(crate) fn prune(rows: [u32; 32], left: &mut [u32; 128], words: &[u32], n: us
             drop_at(left, at);
             i = at + 1;
             stop = n;
-            again = at;
+            again = at as u16;
         } else {
             if again == 0 {
                 return State {
@@ -209,12 +209,12 @@ fn held(rows: &[u32; 32], k: Constraint) -> bool
 }
 
 // The first open constraint from `from` on, or n.
-pub(crate) fn next_open(left: &[u32; 128], from: usize, n: usize) -> usize
+pub(crate) fn next_open(left: &[u32; 128], from: usize, n: u16) -> usize
     requires { ⌜ (n ≤ 4096) × (from ≤ n) × Fit (now left) n ⌝ }
     ensures { λ r. ⌜ NextOpen (now (left .entry)) from n r ⌝ }
 {
     let mut i = from;
-    while i < n {
+    while i < n as usize {
         let w = i / 32;
         let m = bits_from(left[w], (i % 32) as u32);
         if m != 0 {
@@ -222,19 +222,19 @@ pub(crate) fn next_open(left: &[u32; 128], from: usize, n: usize) -> usize
         }
         i = w * 32 + 32;
     }
-    n
+    n as usize
 }
 
 // The first open constraint of which no side is there whole, or n.
-fn next_choice(rows: &[u32; 32], left: &[u32; 128], words: &[u32], n: usize) -> usize
+fn next_choice(rows: &[u32; 32], left: &[u32; 128], words: &[u32], n: u16) -> usize
     requires { ⌜ Fit (now left) n × Given (now words) n ⌝ }
     ensures { λ r. ⌜ NextChoice (now (words .entry)) (now (rows .entry)) (now (left .entry)) n r ⌝ }
 {
     let mut i: usize = 0;
     loop {
         let j = next_open(left, i, n);
-        if j >= n {
-            return n;
+        if j >= n as usize {
+            return n as usize;
         }
         let k = constraint_at(words, j);
         if !held(rows, k) {
@@ -247,7 +247,7 @@ fn next_choice(rows: &[u32; 32], left: &[u32; 128], words: &[u32], n: usize) -> 
 // The walk: whether some order respects the row words and one side of each constraint, where those that are not open are settled.
 // Each choice puts two numbers in order that stood in none, so at most 496 calls stand one in another below the first (`depth` in proofs/Pairs.antt).
 // As compiled a level takes 1,520 bytes of stack.
-pub(crate) fn walk(rows: [u32; 32], left: &[u32; 128], words: &[u32], n: usize) -> Selection
+pub(crate) fn walk(rows: [u32; 32], left: &[u32; 128], words: &[u32], n: u16) -> Selection
     requires { ⌜ Ready (now words) n rows (now left) ⌝ }
     ensures { λ r. ⌜ Walked (now (words .entry)) n rows (now (left .entry)) (r .found) (r .rows) ⌝ }
 {
@@ -262,7 +262,7 @@ pub(crate) fn walk(rows: [u32; 32], left: &[u32; 128], words: &[u32], n: usize) 
         };
     }
     let i = next_choice(&c, &l, words, n);
-    if i >= n {
+    if i >= n as usize {
         return Selection {
             rows: c,
             found: true,

@@ -85,7 +85,7 @@ fn pick(
     sel: [u32; 32],
     set: u32,
     words: &[u32],
-    n: usize,
+    n: u16,
     t: usize,
 ) -> Choice
     requires { ⌜ Progress t (now words) n rows (now left) sel × Below set t × ((set ≡ 0) → ⊥) ⌝ }
@@ -124,7 +124,7 @@ fn fill(
     sel: [u32; 32],
     all: u32,
     words: &[u32],
-    n: usize,
+    n: u16,
     t: usize,
 ) -> [u8; 32]
     requires { ⌜ Begins t (now words) n rows left sel all ⌝ }
@@ -177,14 +177,14 @@ fn numbers(t: u32) -> u32
 }
 
 // Which of the 32 constraints from 32 w on are among the first n, as a set.
-fn open_word(n: usize, w: usize) -> u32
+fn open_word(n: u16, w: usize) -> u32
     requires { ⌜ (n ≤ 4096) × (w < 128) ⌝ }
     ensures { λ r. ⌜ ((b : ℕ) → b < 32 → bit r b ≡ ltb (w * 32 + b) n) ⌝ }
 {
-    if w * 32 >= n {
+    if w * 32 >= n as usize {
         return 0;
     }
-    let k = n - w * 32;
+    let k = n - (w * 32) as u16;
     if k >= 32 {
         return numbers(32);
     }
@@ -192,12 +192,12 @@ fn open_word(n: usize, w: usize) -> u32
 }
 
 // The first n constraints are open.
-fn all_open(n: usize) -> [u32; 128]
+fn all_open(n: u16) -> [u32; 128]
     requires { ⌜ n ≤ 4096 ⌝ }
     ensures { λ r. ⌜ ((i : ℕ) → isOpen r i ≡ ltb i n) ⌝ }
 {
     let mut out = [0; 128];
-    for w in 0..(n + 31) / 32 {
+    for w in 0..(n as usize + 31) / 32 {
         out[w] = open_word(n, w);
     }
     out
@@ -228,7 +228,7 @@ fn drop_if(left: &mut [u32; 128], i: usize, goes: bool)
 }
 
 // The open constraints without those: every order has one of their two sides, and pruning adds nothing by them. The search goes on without them.
-fn lighter(left: [u32; 128], words: &[u32], n: usize) -> [u32; 128]
+fn lighter(left: [u32; 128], words: &[u32], n: u16) -> [u32; 128]
     requires { ⌜ Fit left n × Given (now words) n ⌝ }
     ensures { λ r. ⌜ Lighter (now (words .entry)) left r ⌝ }
 {
@@ -236,7 +236,7 @@ fn lighter(left: [u32; 128], words: &[u32], n: usize) -> [u32; 128]
     let mut i: usize = 0;
     loop {
         let j = crate::next_open(&l, i, n);
-        if j >= n {
+        if j >= n as usize {
             return l;
         }
         let k = crate::constraint_at(words, j);
@@ -246,7 +246,7 @@ fn lighter(left: [u32; 128], words: &[u32], n: usize) -> [u32; 128]
 }
 
 // The first order that respects closed row words without a cycle and one side of each of the first n constraints.
-pub fn first_closed(rows: [u32; 32], words: &[u32], n: usize, t: usize) -> Found
+pub fn first_closed(rows: [u32; 32], words: &[u32], n: u16, t: usize) -> Found
     requires { ⌜ Asked t (now words) n rows × PartialOrder rows ⌝ }
     ensures { λ r. ⌜ Answered t (now (words .entry)) n rows (r .found) (r .order) ⌝ }
 {
@@ -262,7 +262,7 @@ pub fn first_closed(rows: [u32; 32], words: &[u32], n: usize, t: usize) -> Found
     let d = p.rows;
     let light = lighter(left, words, n);
     let set = numbers(t as u32);
-    if crate::next_open(&light, 0, n) >= n {
+    if crate::next_open(&light, 0, n) >= n as usize {
         let order = lowest_first(d, set, t);
         return Found { found: true, order };
     }

@@ -4,10 +4,12 @@
 --     Good k x         what the row says of x at its machine value: that its numbers are in their ranges, and an array's length
 --     val-is, good     of a value that a call returned at the machine value v: v is its machine value, and it is good
 --     have             what it owns is had for nothing, as a step
---     usizeK, u32K, u8K, boolK, bytesK n, wordsK n     a number of each width, a bool, and an array of n bytes or of n words of 32 bits.        words-long, words-small      how many, and that each has 32 bits
+--     usizeK, u32K, u16K, u8K, boolK, bytesK n, wordsK n     a number of each width, a bool, and an array of n bytes or of n words of 32 bits.        words-long, words-small      how many, and that each has 32 bits
+--     wide             16 bits are widened to 64
 -- Assumes nothing, but `have`, which assumes `Given`.
 use mathlib.Core.Path.{_≡_, refl, ap, subst}
 use Prim.Native.Nat.{ℕ, zero, suc, _<_, _^_}
+use native.Mathlib.Omega.{arith}
 use lib.Dec.{lit<}
 use lib.ListN.{length, getD}
 use denote.Builtin.{u32}
@@ -23,7 +25,7 @@ use denote.Shadow.{makes-shadow, shadow}
 use denote.Laws.{Is, Typed, Tells, Makes, Lawful, Copy}
 use denote.Steps.{only, owned}
 use denote.Struct.Struct.{Plains}
-use denote.Struct.Field.{Field, bool-field, u8-field, u32-field, usize-field, array-field}
+use denote.Struct.Field.{Field, bool-field, u8-field, u16-field, u32-field, usize-field, array-field}
 use denote.Struct.Declared as D
 use denote.Struct.Laws as LL
 
@@ -58,6 +60,9 @@ of-declared T L lw P c = record {
 
 abbrev pub u8K : Kind
 u8K = of-field u8-field LL.u8-laws LL.u8-plain LL.u8-copy
+
+abbrev pub u16K : Kind
+u16K = of-field u16-field LL.u16-laws LL.u16-plain LL.u16-copy
 
 abbrev pub u32K : Kind
 u32K = of-field u32-field LL.u32-laws LL.u32-plain LL.u32-copy
@@ -106,3 +111,6 @@ words-long n xs ok = ok .1 .0 .1
 
 pub words-small : (n : ℕ) (xs : List ℕ) → Good (wordsK n) xs → (i : ℕ) → getD xs i 0 < 2 ^ 32
 words-small n xs ok = words-below xs (ok .0) (ok .1 .1)
+
+pub wide : (k : ℕ) → k < 2 ^ 16 → k < 2 ^ 64
+wide k h = omega arith

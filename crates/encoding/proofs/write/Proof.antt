@@ -1,6 +1,6 @@
 -- `encoding::write` meets its contract: a walk of its MIR, by hand. The list is lent to `list`, beside the tables and the numbers, which are passed on; then to `prune` and to `clear`.
 -- Assumes nothing.
-use Rattle.walk.proofs.Prelude.{_≡_, refl, ℕ, _<_, _^_, arith, List, [], _∷_, URA, fullShare, named, w8, w64, Val, vint, vptr, SProp, ent, sep, Lft, Share, GName, ftrue, Fml, fat, flft, Memory, Routine, Heap, Calls, WpFn, Tables, Atoms, sem, Fun, givenOf, tables, tablesOf, Given, ‵, _⊛_, _$_, _∵_, !, qed, by, move, keep, drop, split, join, rewrite, fsplit, fjoin, suffices, frame, done, look, init, store, forget, stop, hop, fld, from, load, of-opd, and-then, no-more, addr, assigns, land, returns, enter, alloc1, alloc0, params1, pass1, pass0, free1, free0, agg, whole, sub, look-in, fmOf, WpFn-mono, owns, uint-vals, uint-tells, nothing-lawful, u8, u16, u32, usize, unit, RefT, MutSlice, Room, slice-vals, mut-slice-tells, nothing, onEntry, needs, Meets, tripleOf, Triple, entered, cited, says, Stays, stay-dropped, stay-slice, walkOf, goes-dropped, goes-slice, Walks, ends-at, walked, walk-meets, yes, plain, arrayOf}
+use Rattle.walk.proofs.Prelude.{_≡_, refl, ℕ, _<_, _^_, arith, List, [], _∷_, URA, fullShare, named, w8, w16, Val, vint, vptr, SProp, ent, sep, Lft, Share, GName, ftrue, Fml, fat, flft, Memory, Routine, Heap, Calls, WpFn, Tables, Atoms, sem, Fun, givenOf, tables, tablesOf, Given, ‵, _⊛_, _$_, _∵_, !, qed, by, move, keep, drop, split, join, rewrite, fsplit, fjoin, suffices, frame, done, look, init, store, forget, stop, hop, fld, from, load, of-opd, and-then, no-more, addr, assigns, land, returns, enter, alloc1, alloc0, params1, pass1, pass0, free1, free0, agg, whole, sub, look-in, fmOf, WpFn-mono, owns, uint-vals, uint-tells, nothing-lawful, u8, u16, u32, unit, RefT, MutSlice, Room, slice-vals, mut-slice-tells, nothing, onEntry, needs, Meets, tripleOf, Triple, entered, cited, says, Stays, stay-dropped, stay-slice, walkOf, goes-dropped, goes-slice, Walks, ends-at, walked, walk-meets, yes, plain, arrayOf}
 use Rattle.walk.proofs.Both.{calls-both}
 use Rattle.walk.proofs.Kind.{wordsK, vals, Good, good, val-is, typed, have}
 use Rattle.walk.proofs.Lending.{Answer, calls-lending}
@@ -34,7 +34,7 @@ use Rattle.encoding.proofs.write.Statement as stated
 use Rattle.encoding.proofs.write.Code as code
 
 abbrev stayed : Stays (f.ended .signature .params) (f.ended .kept)
-stayed = (stay-dropped (shrRefTo (0 ∷ []) tt (arrayOf (plain (λ _. u32)) 1025)) yes, (stay-dropped (shrRefTo (0 ∷ []) tt (arrayOf (plain (λ _. u16)) 4096)) yes, (stay-dropped (arrayOf (plain (λ _. u32)) 32) yes, (stay-dropped (plain (λ _. usize)) yes, (stay-dropped (plain (λ _. u8)) yes, (stay-slice (1 ∷ []) tt (plain (λ _. R)), tt))))))
+stayed = (stay-dropped (shrRefTo (0 ∷ []) tt (arrayOf (plain (λ _. u32)) 1025)) yes, (stay-dropped (shrRefTo (0 ∷ []) tt (arrayOf (plain (λ _. u16)) 4096)) yes, (stay-dropped (arrayOf (plain (λ _. u32)) 32) yes, (stay-dropped (plain (λ _. u16)) yes, (stay-dropped (plain (λ _. u8)) yes, (stay-slice (1 ∷ []) tt (plain (λ _. R)), tt))))))
 
 -- the callees, and that each meets its contract
 record Known {M : Type 1} (𝓤 : URA M) (H : Heap 𝓤) (A : Atoms 𝓤) (mem : Memory → SProp 𝓤) (run : Routine → Fun 𝓤) (C : Calls 𝓤 H) : Type 1 where
@@ -43,7 +43,7 @@ record Known {M : Type 1} (𝓤 : URA M) (H : Heap 𝓤) (A : Atoms 𝓤) (mem :
   clear : Triple 𝓤 (C #pruning·clear) (Clear 𝓤 H A mem run)
 
 module _ {M : Type 1} (𝓤 : URA M) (H : Heap 𝓤) (A : Atoms 𝓤) (W : Given 𝓤 H A) (mem : Memory → SProp 𝓤) (run : Routine → Fun 𝓤) (κ₀ κ : Lft) (q₀ q : Share) (r₀ r₁ : RefT (List ℕ)) (rows : List ℕ) (n pruning b o : ℕ) (γ : GName) (ys : List Constraint)
-    (rows-ok : Good (wordsK 32) rows) (n-fits : n < 2 ^ 64) (pruning-fits : pruning < 2 ^ 8) (room : Room R (length ys)) (ready : Writable n (length ys)) where
+    (rows-ok : Good (wordsK 32) rows) (n-fits : n < 2 ^ 16) (pruning-fits : pruning < 2 ^ 8) (room : Room R (length ys)) (ready : Writable n (length ys)) where
   abbrev m : ℕ
   m = length ys
 
@@ -73,7 +73,7 @@ module _ {M : Type 1} (𝓤 : URA M) (H : Heap 𝓤) (A : Atoms 𝓤) (W : Given
   a = (r₀, (r₁, (rows, (n, (pruning, (lent b o γ ys, tt))))))
 
   abbrev at : List Val × (List Val × (List Val × (List Val × (List Val × (List Val × Unit {0})))))
-  at = (s₀ ∷ [], (s₁ ∷ [], (vals (wordsK 32) rows, (vint w64 n ∷ [], (vint w8 pruning ∷ [], (s ∷ [], tt))))))
+  at = (s₀ ∷ [], (s₁ ∷ [], (vals (wordsK 32) rows, (vint w16 n ∷ [], (vint w8 pruning ∷ [], (s ∷ [], tt))))))
 
   abbrev Post : Val → SProp 𝓤
   Post = walkOf 𝓤 H A f.ended stayed (f.clauses 𝓤 H A mem run) .post (((κ₀, (κ, tt)), (q₀, (q, tt)), tt, a, at), tt)
@@ -86,13 +86,13 @@ module _ {M : Type 1} (𝓤 : URA M) (H : Heap 𝓤) (A : Atoms 𝓤) (W : Given
       nothing ! $ move ! (2 ∷ 0 ∷ []) $ join ! $ move ! (2 ∷ 0 ∷ []) $ join ! $ frame ! $
       nothing ! $ move ! (1 ∷ 0 ∷ []) $ fjoin ! $ nothing ! $ fjoin ! $ nothing ! $ fjoin ! $ nothing ! $ fjoin ! $ nothing ! $ fjoin ! $ nothing ! $ fjoin ! $ frame ! $ have ! prunedK r _ ok $ done !
 
-  walk : (𝓣 : Tables 𝓤 H) → Known 𝓤 H A mem run (𝓣 .C) → ent 𝓤 (onEntry 𝓤 H A f.signature (κ₀, (κ, tt)) (q₀, (q, tt)) a at) (WpFn 𝓤 H (𝓣 .C) (𝓣 .Λ) code.function (s₀ ∷ s₁ ∷ wordsK 32 .val rows ∷ vint w64 n ∷ vint w8 pruning ∷ s ∷ []) Post)
+  walk : (𝓣 : Tables 𝓤 H) → Known 𝓤 H A mem run (𝓣 .C) → ent 𝓤 (onEntry 𝓤 H A f.signature (κ₀, (κ, tt)) (q₀, (q, tt)) a at) (WpFn 𝓤 H (𝓣 .C) (𝓣 .Λ) code.function (s₀ ∷ s₁ ∷ wordsK 32 .val rows ∷ vint w16 n ∷ vint w8 pruning ∷ s ∷ []) Post)
   walk 𝓣 known =
-      qed W ((‵ (flft κ₀ q₀) ⊛ (‵ (flft κ q) ⊛ ‵ ftrue)) ∷ ‵ (owns (ShrRef (named 0) κ₀ (tablesK .row) ∷ ShrRef (named 0) κ₀ (placesK .row) ∷ wordsK 32 .row ∷ usize ∷ u8 ∷ MutSlice (named 1) κ R ∷ []) a at) ∷ []) ∵
+      qed W ((‵ (flft κ₀ q₀) ⊛ (‵ (flft κ q) ⊛ ‵ ftrue)) ∷ ‵ (owns (ShrRef (named 0) κ₀ (tablesK .row) ∷ ShrRef (named 0) κ₀ (placesK .row) ∷ wordsK 32 .row ∷ u16 ∷ u8 ∷ MutSlice (named 1) κ R ∷ []) a at) ∷ []) ∵
       -- what the list owns, its token, the two references and their token are kept
       split ! $ move ! (1 ∷ []) $ split ! $ move ! (3 ∷ []) $ fsplit ! $ move ! (1 ∷ []) $ fsplit ! $ move ! (1 ∷ []) $ fsplit ! $ drop ! $ fsplit ! $ drop ! $ fsplit ! $ drop ! $ fsplit ! $
       move ! (3 ∷ 2 ∷ []) $ fjoin ! $ keep ! (1 ∷ 3 ∷ 0 ∷ 5 ∷ []) $
-      enter ! (𝓣 .C) (𝓣 .Λ) code.function (s₀ ∷ s₁ ∷ wordsK 32 .val rows ∷ vint w64 n ∷ vint w8 pruning ∷ s ∷ []) _ $
+      enter ! (𝓣 .C) (𝓣 .Λ) code.function (s₀ ∷ s₁ ∷ wordsK 32 .val rows ∷ vint w16 n ∷ vint w8 pruning ∷ s ∷ []) _ $
       alloc1 ! (λ l₀. alloc1 ! (λ l₁. alloc1 ! (λ l₂. alloc1 ! (λ l₃. alloc1 ! (λ l₄. alloc1 ! (λ l₅. alloc1 ! (λ l₆. alloc1 ! (λ l₇. alloc1 ! (λ l₈. alloc1 ! (λ l₉. alloc1 ! (λ l₁₀. alloc1 ! (λ l₁₁. alloc1 ! (λ l₁₂. alloc1 ! (λ l₁₃. alloc1 ! (λ l₁₄. alloc0 ! $ params1 ! $
       pass1 ! (init ! 26 refl (tt, tt)) $ pass1 ! (init ! 24 refl (tt, tt)) $ pass1 ! (init ! 22 refl (typed (wordsK 32) 𝓤 H A W rows _ rows-ok .0)) $ pass1 ! (init ! 20 refl (tt, record { fits = n-fits })) $ pass1 ! (init ! 18 refl (tt, record { fits = pruning-fits })) $ pass1 ! (init ! 16 refl (tt, (tt, (record { fits = room .0 }, tt)))) $ pass0 ! $
       move ! (30 ∷ 31 ∷ 32 ∷ 33 ∷ []) $
@@ -111,7 +111,7 @@ module _ {M : Type 1} (𝓤 : URA M) (H : Heap 𝓤) (A : Atoms 𝓤) (W : Given
       calls-lending ! (fmOf 𝓤 H (W .laws) 𝓣) R (named 1) (named 0) κ q γ b o m l₁′ len room (Answer (prunedK .row) (Pruning rows l₁′ n pruning))
       (prune-left 𝓤 H A mem run W (𝓣 .C) (fmOf 𝓤 H (W .laws) 𝓣) b o m l₁′ len (known .prune) rows n pruning rows-ok n-fits pruning-fits (omega (arith, len, ready .fits), aimed ts ks rows n m ready ys l₁′ is))
       (λ i j. and-then ! (load ! (from ! (stop !)) (look ! 26 refl)) (and-then ! (load ! (from ! (stop !)) (look ! 8 refl)) (and-then ! (load ! (from ! (stop !)) (look ! 24 refl)) (and-then ! (load ! (from ! (stop !)) (look ! 22 refl)) (no-more !))))) (λ u₂ l₂′ gave₂ len₂.
-      let r : Pruned = gave₂ .0 in let p : Pruning rows l₁′ n pruning r l₂′ = gave₂ .1 .0 in let r-ok : Good prunedK r = good prunedK r u₂ (gave₂ .1 .1) in let left-fits : r .left < 2 ^ 64 = of-pruned r u₂ (gave₂ .1 .1) .1 in
+      let r : Pruned = gave₂ .0 in let p : Pruning rows l₁′ n pruning r l₂′ = gave₂ .1 .0 in let r-ok : Good prunedK r = good prunedK r u₂ (gave₂ .1 .1) in let left-fits : r .left < 2 ^ 16 = of-pruned r u₂ (gave₂ .1 .1) .1 in
       land ! (from ! (stop !)) (init ! 18 refl (typed prunedK 𝓤 H A W r u₂ (gave₂ .1 .1) .0)) $ rewrite ! 18 (λ (w : Val). ‵ (fat fullShare D′.mir l₇ 0 w)) (val-is prunedK r u₂ (gave₂ .1 .1)) refl $
       -- clear(list, r.left, n)
       assigns ! (addr ! (from ! (fld ! refl (hop ! (look-in ! 20 (sub ! 0 refl (whole !))) (stop !))))) (from ! (stop !)) (init ! 6 refl (tt, tt)) $
@@ -129,13 +129,13 @@ module _ {M : Type 1} (𝓤 : URA M) (H : Heap 𝓤) (A : Atoms 𝓤) (W : Given
 module _ {M : Type 1} (𝓤 : URA M) (H : Heap 𝓤) (A : Atoms 𝓤) (W : Given 𝓤 H A) (mem : Memory → SProp 𝓤) (run : Routine → Fun 𝓤) (𝓣 : Tables 𝓤 H) (known : Known 𝓤 H A mem run (𝓣 .C)) where
   write-walks : Walks 𝓤 H A f.ended stayed (WpFn 𝓤 H (𝓣 .C) (𝓣 .Λ) code.function) (f.clauses 𝓤 H A mem run)
   write-walks = walked 𝓤 H A f.ended stayed (f.clauses 𝓤 H A mem run) (WpFn 𝓤 H (𝓣 .C) (𝓣 .Λ) code.function)
-      (λ κs. (ptr-vals, (ptr-vals, (vals (wordsK 32), (uint-vals w64, (uint-vals w8, (slice-vals, tt))))))) (λ κs. (shr-tells (named 0) (κs .0) (tablesK .row), (shr-tells (named 0) (κs .0) (placesK .row), (wordsK 32 .tells, (uint-tells w64, (uint-tells w8, (mut-slice-tells (named 1) (κs .1 .0) R, tt)))))))
+      (λ κs. (ptr-vals, (ptr-vals, (vals (wordsK 32), (uint-vals w16, (uint-vals w8, (slice-vals, tt))))))) (λ κs. (shr-tells (named 0) (κs .0) (tablesK .row), (shr-tells (named 0) (κs .0) (placesK .row), (wordsK 32 .tells, (uint-tells w16, (uint-tells w8, (mut-slice-tells (named 1) (κs .1 .0) R, tt)))))))
       (λ κs qs bounds a g are. needs 𝓤 (Writable (a .1 .1 .1 .0) (length (a .1 .1 .1 .1 .1 .0 .now))) _ (λ ready.
       walk 𝓤 H A W mem run (κs .0) (κs .1 .0) (qs .0) (qs .1 .0) (a .0) (a .1 .0) (a .1 .1 .0) (a .1 .1 .1 .0) (a .1 .1 .1 .1 .0) (a .1 .1 .1 .1 .1 .0 .ptr .0) (a .1 .1 .1 .1 .1 .0 .ptr .1) (a .1 .1 .1 .1 .1 .0 .name) (a .1 .1 .1 .1 .1 .0 .now) (are .1 .1 .0) (are .1 .1 .1 .0 .1) (are .1 .1 .1 .1 .0 .1) (are .1 .1 .1 .1 .1 .0 .0 .1) ready 𝓣 known))
 
   write-meets : Meets 𝓤 H A f.signature (WpFn 𝓤 H (𝓣 .C) (𝓣 .Λ) code.function) (f.spec 𝓤 H A mem run)
   write-meets =
-      walk-meets 𝓤 H A f.ended stayed W (goes-dropped 𝓤 H A W 2 (shrRefTo (0 ∷ []) tt (arrayOf (plain (λ _. u32)) 1025)) yes (λ κs x f. refl), (goes-dropped 𝓤 H A W 2 (shrRefTo (0 ∷ []) tt (arrayOf (plain (λ _. u16)) 4096)) yes (λ κs x f. refl), (goes-dropped 𝓤 H A W 2 (arrayOf (plain (λ _. u32)) 32) yes (λ κs x f. refl), (goes-dropped 𝓤 H A W 2 (plain (λ _. usize)) yes (λ κs x f. refl), (goes-dropped 𝓤 H A W 2 (plain (λ _. u8)) yes (λ κs x f. refl), (goes-slice 𝓤 H A W 2 1 tt (plain (λ _. R)), tt)))))) (f.clauses 𝓤 H A mem run)
+      walk-meets 𝓤 H A f.ended stayed W (goes-dropped 𝓤 H A W 2 (shrRefTo (0 ∷ []) tt (arrayOf (plain (λ _. u32)) 1025)) yes (λ κs x f. refl), (goes-dropped 𝓤 H A W 2 (shrRefTo (0 ∷ []) tt (arrayOf (plain (λ _. u16)) 4096)) yes (λ κs x f. refl), (goes-dropped 𝓤 H A W 2 (arrayOf (plain (λ _. u32)) 32) yes (λ κs x f. refl), (goes-dropped 𝓤 H A W 2 (plain (λ _. u16)) yes (λ κs x f. refl), (goes-dropped 𝓤 H A W 2 (plain (λ _. u8)) yes (λ κs x f. refl), (goes-slice 𝓤 H A W 2 1 tt (plain (λ _. R)), tt)))))) (f.clauses 𝓤 H A mem run)
       (WpFn 𝓤 H (𝓣 .C) (𝓣 .Λ) code.function) (WpFn-mono 𝓤 H (W .laws) 𝓣 code.function) write-walks
 
 pub write-spec : {M : Type 1} → stated.statement M

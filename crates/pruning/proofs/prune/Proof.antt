@@ -2,14 +2,14 @@
 --     State            what a turn starts from.        left         what falls with each turn: what is left to do
 --     At               the context of a turn: the list, its token and the closed rows stand in front.        ended        the rest of the body, once no pass is on.        turns        a turn
 -- Assumes nothing.
-use Rattle.walk.proofs.Prelude.{_≡_, refl, sym, _∙_, ap, subst, ℕ, _<_, _≤_, _^_, _*_, _+_, _-_, arith, List, [], _∷_, lit<, URA, fullShare, Ty, named, erased, imm, mut, w8, w32, w64, tyBool, tyPtr, tyInt, tyArray, tyRef, Val, vint, vptr, SProp, ent, sep, Lft, Share, GName, ftrue, fat, froom, fdies, flft, Memory, Routine, Heap, Env, afterTurn, Calls, Loops, WpFn, Tables, Atoms, sem, Fun, givenOf, tables, tablesOf, Given, Item, ‵, _⊛_, runs, anyQ, atRet, Sq, _$_, _∵_, !, qed, by, move, keep, drop, split, join, rewrite, fsplit, fjoin, suffices, frame, done, look, init, store, forget, stop, hop, fld, from, load, lit, of-opd, and-then, no-more, bin, addr, assigns, assigns-last, land, first, skips, jumps, blocks, branches, returns, enter, alloc1, alloc0, params1, pass1, pass0, free1, free0, exec, again, loops, agg, whole, sub, look-in, fmOf, WpFn-mono, owns, pointee, uint-vals, uint-tells, u8, u32, usize, RefT, sliceTy, MutSlice, Room, slice-vals, mut-slice-tells, nothing, onEntry, needs, Meets, tripleOf, Triple, entered, cited, says, Stays, stay-dropped, stay-slice, walkOf, goes-dropped, goes-slice, Walks, ends-at, walked, walk-meets, yes, plain, arrayOf}
+use Rattle.walk.proofs.Prelude.{_≡_, refl, sym, _∙_, ap, subst, ℕ, _<_, _≤_, _^_, _*_, _+_, _-_, arith, List, [], _∷_, lit<, URA, fullShare, Ty, named, erased, imm, mut, w8, w32, w16, tyBool, tyPtr, tyInt, tyArray, tyRef, Val, vint, vptr, SProp, ent, sep, Lft, Share, GName, ftrue, fat, froom, fdies, flft, Memory, Routine, Heap, Env, afterTurn, Calls, Loops, WpFn, Tables, Atoms, sem, Fun, givenOf, tables, tablesOf, Given, Item, ‵, _⊛_, runs, anyQ, atRet, Sq, _$_, _∵_, !, qed, by, move, keep, drop, split, join, rewrite, fsplit, fjoin, suffices, frame, done, look, init, store, forget, stop, hop, fld, from, load, lit, of-opd, and-then, no-more, bin, addr, assigns, assigns-last, land, first, skips, jumps, blocks, branches, returns, enter, alloc1, alloc0, params1, pass1, pass0, free1, free0, exec, again, loops, agg, whole, sub, look-in, fmOf, WpFn-mono, owns, pointee, uint-vals, uint-tells, u8, u32, u16, RefT, sliceTy, MutSlice, Room, slice-vals, mut-slice-tells, nothing, onEntry, needs, Meets, tripleOf, Triple, entered, cited, says, Stays, stay-dropped, stay-slice, walkOf, goes-dropped, goes-slice, Walks, ends-at, walked, walk-meets, yes, plain, arrayOf}
 use Rattle.walk.proofs.Both.{calls-both}
 use Rattle.walk.proofs.ByValue.{after, Result, calls-by-value}
 use Rattle.walk.proofs.Kind.{wordsK, vals, Good, good, val-is, typed, have, words-long, words-small}
 use Rattle.walk.proofs.Lending.{Answer}
 use Rattle.walk.proofs.Locals.{shared, lends-local, local-back}
 use Rattle.walk.proofs.Slices.{lent, counted}
-use Rattle.walk.proofs.Turns.{byte, Falls, falls-wf, lentSlice, Turned, word}
+use Rattle.walk.proofs.Turns.{byte, half, Falls, falls-wf, lentSlice, Turned}
 use mathlib.Core.Bool.{true, false}
 use Rattle.model.proofs.Basics.{true-eq, false-eq}
 use lib.ListN.{length}
@@ -54,7 +54,7 @@ use Rattle.pruning.proofs.prune.Code as code
 use Rattle.pruning.proofs.prune.Code.Mir as body
 
 abbrev stayed : Stays (f.ended .signature .params) (f.ended .kept)
-stayed = (stay-dropped (arrayOf (plain (λ _. u32)) 32) yes, (stay-slice (0 ∷ []) tt (plain (λ _. R)), (stay-dropped (plain (λ _. usize)) yes, (stay-dropped (plain (λ _. u8)) yes, tt))))
+stayed = (stay-dropped (arrayOf (plain (λ _. u32)) 32) yes, (stay-slice (0 ∷ []) tt (plain (λ _. R)), (stay-dropped (plain (λ _. u16)) yes, (stay-dropped (plain (λ _. u8)) yes, tt))))
 
 -- the callees, and that each meets its contract
 record Known {M : Type 1} (𝓤 : URA M) (H : Heap 𝓤) (A : Atoms 𝓤) (mem : Memory → SProp 𝓤) (run : Routine → Fun 𝓤) (C : Calls 𝓤 H) : Type 1 where
@@ -66,7 +66,7 @@ record Known {M : Type 1} (𝓤 : URA M) (H : Heap 𝓤) (A : Atoms 𝓤) (mem :
   skim : Triple 𝓤 (C #pruning·skim) (Skim 𝓤 H A mem run)
 
 module _ {M : Type 1} (𝓤 : URA M) (H : Heap 𝓤) (A : Atoms 𝓤) (W : Given 𝓤 H A) (mem : Memory → SProp 𝓤) (run : Routine → Fun 𝓤) (κ : Lft) (q : Share) (rows : List ℕ) (b o : ℕ) (γ : GName) (ys : List Constraint) (n pruning : ℕ)
-    (rows-ok : Good (wordsK 32) rows) (room : Room R (length ys)) (n-fits : n < 2 ^ 64) (pruning-fits : pruning < 2 ^ 8) (within : n ≤ length ys) (aims : Aims ys n) where
+    (rows-ok : Good (wordsK 32) rows) (room : Room R (length ys)) (n-fits : n < 2 ^ 16) (pruning-fits : pruning < 2 ^ 8) (within : n ≤ length ys) (aims : Aims ys n) where
   abbrev m : ℕ
   m = length ys
 
@@ -80,7 +80,7 @@ module _ {M : Type 1} (𝓤 : URA M) (H : Heap 𝓤) (A : Atoms 𝓤) (W : Given
   a = (rows, (lent b o γ ys, (n, (pruning, tt))))
 
   abbrev at : List Val × (List Val × (List Val × (List Val × Unit {0})))
-  at = (vals (wordsK 32) rows, (s ∷ [], (vint w64 n ∷ [], (vint w8 pruning ∷ [], tt))))
+  at = (vals (wordsK 32) rows, (s ∷ [], (vint w16 n ∷ [], (vint w8 pruning ∷ [], tt))))
 
   abbrev Post : Val → SProp 𝓤
   Post = walkOf 𝓤 H A f.ended stayed (f.clauses 𝓤 H A mem run) .post (((κ, tt), (q, tt), tt, a, at), tt)
@@ -143,14 +143,14 @@ module _ {M : Type 1} (𝓤 : URA M) (H : Heap 𝓤) (A : Atoms 𝓤) (W : Given
     array = tyArray (tyInt w32) 32
 
     abbrev En : Env 𝓤 H
-    En = (D′.mir, l₀) ∷ (array, l₁) ∷ (slice, l₂) ∷ (word, l₃) ∷ (byte, l₄) ∷ (array, l₅) ∷ (array, l₆) ∷ (P′.mir, l₇) ∷ (T′.mir, l₈) ∷ (array, l₉) ∷ (array, l₁₀) ∷ (array, l₁₁) ∷ (tyBool, l₁₂) ∷ (shr, l₁₃) ∷ (ref, l₁₄) ∷ (sliceTy ref, l₁₅) ∷ (array, l₁₆) ∷ []
+    En = (D′.mir, l₀) ∷ (array, l₁) ∷ (slice, l₂) ∷ (half, l₃) ∷ (byte, l₄) ∷ (array, l₅) ∷ (array, l₆) ∷ (P′.mir, l₇) ∷ (T′.mir, l₈) ∷ (array, l₉) ∷ (array, l₁₀) ∷ (array, l₁₁) ∷ (tyBool, l₁₂) ∷ (shr, l₁₃) ∷ (ref, l₁₄) ∷ (sliceTy ref, l₁₅) ∷ (array, l₁₆) ∷ []
 
     abbrev At : State → List (Item 𝓤)
     At t = ‵ (MutSlice (named 0) κ R .own (lent b o γ (t .l)) (s ∷ [])) ∷ ‵ (flft κ q) ∷ ‵ (fat fullShare array l₆ 0 (wordsK 32 .val (t .cl)))
         ∷ ‵ (froom array l₁₆ 0) ∷ ‵ (fdies array l₁₆) ∷ ‵ (froom (sliceTy ref) l₁₅ 0) ∷ ‵ (fdies (sliceTy ref) l₁₅) ∷ ‵ (froom ref l₁₄ 0) ∷ ‵ (fdies ref l₁₄) ∷ ‵ (froom shr l₁₃ 0) ∷ ‵ (fdies shr l₁₃) ∷ ‵ (froom tyBool l₁₂ 0) ∷ ‵ (fdies tyBool l₁₂)
         ∷ ‵ (fat fullShare array l₁₁ 0 (wordsK 32 .val cl₀)) ∷ ‵ (fdies array l₁₁) ∷ ‵ (froom array l₁₀ 0) ∷ ‵ (fdies array l₁₀) ∷ ‵ (froom array l₉ 0) ∷ ‵ (fdies array l₉) ∷ ‵ (froom T′.mir l₈ 0) ∷ ‵ (fdies T′.mir l₈)
         ∷ ‵ (fat fullShare P′.mir l₇ 0 (placeK .val (t .p))) ∷ ‵ (fdies P′.mir l₇) ∷ ‵ (fdies array l₆) ∷ ‵ (fat fullShare array l₅ 0 (wordsK 32 .val (t .g))) ∷ ‵ (fdies array l₅)
-        ∷ ‵ (fat fullShare byte l₄ 0 (vint w8 pruning)) ∷ ‵ (fdies byte l₄) ∷ ‵ (fat fullShare word l₃ 0 (vint w64 n)) ∷ ‵ (fdies word l₃) ∷ ‵ (fat fullShare slice l₂ 0 s) ∷ ‵ (fdies slice l₂) ∷ ‵ (fat fullShare array l₁ 0 (wordsK 32 .val rows)) ∷ ‵ (fdies array l₁) ∷ ‵ (froom D′.mir l₀ 0) ∷ ‵ (fdies D′.mir l₀) ∷ []
+        ∷ ‵ (fat fullShare byte l₄ 0 (vint w8 pruning)) ∷ ‵ (fdies byte l₄) ∷ ‵ (fat fullShare half l₃ 0 (vint w16 n)) ∷ ‵ (fdies half l₃) ∷ ‵ (fat fullShare slice l₂ 0 s) ∷ ‵ (fdies slice l₂) ∷ ‵ (fat fullShare array l₁ 0 (wordsK 32 .val rows)) ∷ ‵ (fdies array l₁) ∷ ‵ (froom D′.mir l₀ 0) ∷ ‵ (fdies D′.mir l₀) ∷ []
 
     ended : (t : State) → t .p .on ≡ false → Sq W (At t) (runs C Λ En body.t-6 (atRet En Post))
     ended t off =
@@ -177,7 +177,7 @@ module _ {M : Type 1} (𝓤 : URA M) (H : Heap 𝓤) (A : Atoms 𝓤) (W : Given
         move ! (2 ∷ []) $ lends-local ! tt (wordsK 32) tt (named 0) (t .cl) l₆ (t .cl-ok) (λ ν δ. move ! (3 ∷ 4 ∷ []) $
         calls-both ! (fmOf 𝓤 H (W .laws) 𝓣) R (named 0) (named 1) κ q γ b o m (t .l) (t .known .len) room (ShrRef (named 0) (ν ∷ []) (wordsK 32 .row) .own (shared l₆ δ (t .cl)) (vptr l₆ 0 ∷ []))
         (shr-copy 𝓤 H A W (named 0) (ν ∷ []) (wordsK 32 .row) .twice (shared l₆ δ (t .cl)) (vptr l₆ 0 ∷ [])) (ν ∷ []) fullShare (Answer (hitK .row) (Skims (t .cl) (t .l) (t .p)))
-        (skim-left 𝓤 H A mem run W C (fmOf 𝓤 H (W .laws) 𝓣) (ν ∷ []) fullShare (shared l₆ δ (t .cl)) b o m (t .l) (t .known .len) (t .p) (known .skim) (p-fits .0) (p-fits .1) (p-fits .2) (t .known .low, t .known .high, omega (arith, t .known .within, t .known .len), t .known .aims))
+        (skim-left 𝓤 H A mem run W C (fmOf 𝓤 H (W .laws) 𝓣) (ν ∷ []) fullShare (shared l₆ δ (t .cl)) b o m (t .l) (t .known .len) (t .p) (known .skim) (p-fits .0) (p-fits .1) (p-fits .2) (t .known .inside .low, t .known .inside .high, omega (arith, t .known .inside .top, t .known .len), t .known .aims))
         (λ i j x y. and-then ! (load ! (from ! (stop !)) (look ! 11 refl)) (and-then ! (load ! (from ! (stop !)) (look ! 7 refl)) (and-then ! (load ! (from ! (fld ! refl (stop !))) (look-in ! 23 (sub ! 0 refl (whole !)))) (and-then ! (load ! (from ! (fld ! refl (stop !))) (look-in ! 23 (sub ! 1 refl (whole !)))) (and-then ! (load ! (from ! (fld ! refl (stop !))) (look-in ! 23 (sub ! 2 refl (whole !)))) (no-more !)))))) (λ u zs gave len.
         let h : Hit = gave .0 in let skims : Skims (t .cl) (t .l) (t .p) h zs = gave .1 .0 in let h-ok : Good hitK h = good hitK h u (gave .1 .1) in let h-fits = of-hit h u (gave .1 .1) in
         let skimmed = skims (t .g) (t .closed) in let to-fits : h .to < 32 = to-small (t .g) (t .l) zs (t .p .at) (t .p .kept) (t .p .end) h skimmed in
@@ -212,10 +212,10 @@ module _ {M : Type 1} (𝓤 : URA M) (H : Heap 𝓤) (A : Atoms 𝓤) (W : Given
     looped : Sq W (At begin) (runs C Λ En body.t-5 (atRet En Post))
     looped = first ! $ blocks ! $ loops ! 𝓣 (Falls left) (falls-wf left) At turns begin
 
-  walk : (𝓣 : Tables 𝓤 H) → Known 𝓤 H A mem run (𝓣 .C) → ent 𝓤 (onEntry 𝓤 H A f.signature (κ, tt) (q, tt) a at) (WpFn 𝓤 H (𝓣 .C) (𝓣 .Λ) code.function (wordsK 32 .val rows ∷ s ∷ vint w64 n ∷ vint w8 pruning ∷ []) Post)
+  walk : (𝓣 : Tables 𝓤 H) → Known 𝓤 H A mem run (𝓣 .C) → ent 𝓤 (onEntry 𝓤 H A f.signature (κ, tt) (q, tt) a at) (WpFn 𝓤 H (𝓣 .C) (𝓣 .Λ) code.function (wordsK 32 .val rows ∷ s ∷ vint w16 n ∷ vint w8 pruning ∷ []) Post)
   walk 𝓣 known =
-      qed W ((‵ (flft κ q) ⊛ ‵ ftrue) ∷ ‵ (owns (wordsK 32 .row ∷ MutSlice (named 0) κ R ∷ usize ∷ u8 ∷ []) a at) ∷ []) ∵ split ! $ move ! (2 ∷ []) $ fsplit ! $ drop ! $ fsplit ! $ keep ! (0 ∷ 2 ∷ []) $
-      enter ! (𝓣 .C) (𝓣 .Λ) code.function (wordsK 32 .val rows ∷ s ∷ vint w64 n ∷ vint w8 pruning ∷ []) _ $
+      qed W ((‵ (flft κ q) ⊛ ‵ ftrue) ∷ ‵ (owns (wordsK 32 .row ∷ MutSlice (named 0) κ R ∷ u16 ∷ u8 ∷ []) a at) ∷ []) ∵ split ! $ move ! (2 ∷ []) $ fsplit ! $ drop ! $ fsplit ! $ keep ! (0 ∷ 2 ∷ []) $
+      enter ! (𝓣 .C) (𝓣 .Λ) code.function (wordsK 32 .val rows ∷ s ∷ vint w16 n ∷ vint w8 pruning ∷ []) _ $
       alloc1 ! (λ l₀. alloc1 ! (λ l₁. alloc1 ! (λ l₂. alloc1 ! (λ l₃. alloc1 ! (λ l₄. alloc1 ! (λ l₅. alloc1 ! (λ l₆. alloc1 ! (λ l₇. alloc1 ! (λ l₈. alloc1 ! (λ l₉. alloc1 ! (λ l₁₀. alloc1 ! (λ l₁₁. alloc1 ! (λ l₁₂. alloc1 ! (λ l₁₃. alloc1 ! (λ l₁₄. alloc1 ! (λ l₁₅. alloc1 ! (λ l₁₆. alloc0 ! $ params1 ! $
       pass1 ! (init ! 30 refl (typed (wordsK 32) 𝓤 H A W rows _ rows-ok .0)) $ pass1 ! (init ! 28 refl (tt, (tt, (record { fits = room .0 }, tt)))) $ pass1 ! (init ! 26 refl (tt, record { fits = n-fits })) $ pass1 ! (init ! 24 refl (tt, record { fits = pruning-fits })) $ pass0 ! $
       move ! (34 ∷ 35 ∷ []) $
@@ -234,13 +234,13 @@ module _ {M : Type 1} (𝓤 : URA M) (H : Heap 𝓤) (A : Atoms 𝓤) (W : Given
 module _ {M : Type 1} (𝓤 : URA M) (H : Heap 𝓤) (A : Atoms 𝓤) (W : Given 𝓤 H A) (mem : Memory → SProp 𝓤) (run : Routine → Fun 𝓤) (𝓣 : Tables 𝓤 H) (known : Known 𝓤 H A mem run (𝓣 .C)) where
   prune-walks : Walks 𝓤 H A f.ended stayed (WpFn 𝓤 H (𝓣 .C) (𝓣 .Λ) code.function) (f.clauses 𝓤 H A mem run)
   prune-walks = walked 𝓤 H A f.ended stayed (f.clauses 𝓤 H A mem run) (WpFn 𝓤 H (𝓣 .C) (𝓣 .Λ) code.function)
-      (λ κs. (vals (wordsK 32), (slice-vals, (uint-vals w64, (uint-vals w8, tt))))) (λ κs. (wordsK 32 .tells, (mut-slice-tells (named 0) (κs .0) R, (uint-tells w64, (uint-tells w8, tt)))))
+      (λ κs. (vals (wordsK 32), (slice-vals, (uint-vals w16, (uint-vals w8, tt))))) (λ κs. (wordsK 32 .tells, (mut-slice-tells (named 0) (κs .0) R, (uint-tells w16, (uint-tells w8, tt)))))
       (λ κs qs bounds a g are. needs 𝓤 ((a .1 .1 .0 ≤ length (a .1 .0 .now)) × Aims (a .1 .0 .now) (a .1 .1 .0)) _ (λ within.
       walk 𝓤 H A W mem run (κs .0) (qs .0) (a .0) (a .1 .0 .ptr .0) (a .1 .0 .ptr .1) (a .1 .0 .name) (a .1 .0 .now) (a .1 .1 .0) (a .1 .1 .1 .0) (are .0) (are .1 .0 .0 .1) (are .1 .1 .0 .1) (are .1 .1 .1 .0 .1) (within .0) (within .1) 𝓣 known))
 
   prune-meets : Meets 𝓤 H A f.signature (WpFn 𝓤 H (𝓣 .C) (𝓣 .Λ) code.function) (f.spec 𝓤 H A mem run)
   prune-meets =
-      walk-meets 𝓤 H A f.ended stayed W (goes-dropped 𝓤 H A W 1 (arrayOf (plain (λ _. u32)) 32) yes (λ κs x f. refl), (goes-slice 𝓤 H A W 1 0 tt (plain (λ _. R)), (goes-dropped 𝓤 H A W 1 (plain (λ _. usize)) yes (λ κs x f. refl), (goes-dropped 𝓤 H A W 1 (plain (λ _. u8)) yes (λ κs x f. refl), tt)))) (f.clauses 𝓤 H A mem run)
+      walk-meets 𝓤 H A f.ended stayed W (goes-dropped 𝓤 H A W 1 (arrayOf (plain (λ _. u32)) 32) yes (λ κs x f. refl), (goes-slice 𝓤 H A W 1 0 tt (plain (λ _. R)), (goes-dropped 𝓤 H A W 1 (plain (λ _. u16)) yes (λ κs x f. refl), (goes-dropped 𝓤 H A W 1 (plain (λ _. u8)) yes (λ κs x f. refl), tt)))) (f.clauses 𝓤 H A mem run)
       (WpFn 𝓤 H (𝓣 .C) (𝓣 .Λ) code.function) (WpFn-mono 𝓤 H (W .laws) 𝓣 code.function) prune-walks
 
 pub prune-spec : {M : Type 1} → stated.statement M

@@ -1,5 +1,6 @@
 -- `search::next_choice` meets its contract. Assumes nothing.
 use Rattle.search.proofs.Steps.{nodes-of, room-at}
+use Rattle.search.proofs.Counts.{open-next}
 use Rattle.search.proofs.Opens.{choice-none, choice-found, choice-next}
 use Rattle.search.specs.Constraints.{isOpen, conAt}
 use Rattle.search.proofs.Steps.{is-true, is-false, not-true, not-false}
@@ -42,7 +43,7 @@ loop-less : tie.Need-loop-less Inv-loop μ-loop
 loop-less c = omega (arith, c .before .before .before .before .next-open .ensures .bound)
 
 loop-again : tie.Need-loop-again Inv-loop μ-loop
-loop-again c = let b = c .before .before .before .before .before .before .before in (omega arith, choice-next (b .args .words .now) (b .args .rows .now) (b .args .left .now) (b .args .n) _ _ (c .before .before .before .before .before .loop .inv .1) (c .before .before .before .before .next-open .ensures) (is-true _ _ (c .before .held .ensures ∙ ap (held _) (c .before .before .constraint-at .ensures)) (not-false _ (c .if2 .left))))
+loop-again c = let b = c .before .before .before .before .before .before .before in (open-next _ _ _ _ (c .before .before .before .before .next-open .ensures) (omega arith) .1, choice-next (b .args .words .now) (b .args .rows .now) (b .args .left .now) (b .args .n) _ _ (c .before .before .before .before .before .loop .inv .1) (c .before .before .before .before .next-open .ensures) (is-true _ _ (c .before .held .ensures ∙ ap (held _) (c .before .before .constraint-at .ensures)) (not-false _ (c .if2 .left))))
 
 pub next-choice-spec : {M : Type 1} → statement M
 next-choice-spec =

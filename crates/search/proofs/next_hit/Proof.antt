@@ -14,10 +14,10 @@ use Rattle.search.proofs.next_hit.Statement.{statement}
 use Rattle.search.proofs.next_hit.Tie as tie
 
 abbrev Inv-loop : tie.InvT-loop
-Inv-loop rows left words from stop n i₀ i = (from ≤ i) × (i < 4128) × ((j : ℕ) → from ≤ j → j < stop → j < i → T (isOpen left j) → T (not (shut rows (conAt words j))))
+Inv-loop rows left words from stop n i₀ i = (from ≤ i) × (i ≤ 4096) × ((j : ℕ) → from ≤ j → j < stop → j < i → T (isOpen left j) → T (not (shut rows (conAt words j))))
 
 abbrev μ-loop : tie.MeasureT-loop
-μ-loop rows left words from stop n i₀ i = 4128 - i
+μ-loop rows left words from stop n i₀ i = 4096 - i
 
 loop-holds : tie.Need-loop-holds Inv-loop μ-loop
 loop-holds c = (omega arith, omega (arith, c .before .pre .0, c .before .pre .1, c .before .pre .4 .few), λ j a s b. absurd (omega arith))
@@ -55,7 +55,7 @@ add-result c = omega arith
 returns : tie.Need-returns Inv-loop μ-loop
 returns c = let b = c .before .before .before .before .before .before .before in
     let l = c .before .before .before .before .before .loop in
-    hit-found (b .args .left .now) (l .i) _ (c .before .before .bits-from .ensures) (b .args .words .now) (b .args .rows .now) (b .args .from) (b .args .stop) (l .inv .0) (l .inv .2) _ (c .before .hit-in .ensures) (c .if1 .taken)
+    hit-found (b .args .left .now) (l .i) _ (c .before .before .bits-from .ensures) (b .args .words .now) (b .args .rows .now) (b .args .from) (b .args .stop) (b .args .n) (l .inv .0) (l .inv .2) _ (c .before .hit-in .ensures) (b .pre .3) (c .if1 .taken)
 
 mul-i : tie.Need-mul-i Inv-loop μ-loop
 mul-i c = omega arith
@@ -69,12 +69,12 @@ loop-less c = let b = c .before .before .before .before .before .before .before 
 loop-again : tie.Need-loop-again Inv-loop μ-loop
 loop-again c = let b = c .before .before .before .before .before .before .before in
     let l = c .before .before .before .before .before .loop in
-    (omega (arith, l .inv .0), omega (arith, b .pre .1, b .pre .4 .few), hit-skip (b .args .left .now) (l .i) _ (c .before .before .bits-from .ensures) (b .args .words .now) (b .args .rows .now) (b .args .from) (b .args .stop) (l .inv .0) (l .inv .2) _ (c .before .hit-in .ensures) (omega arith))
+    (omega (arith, l .inv .0), omega (arith, b .pre .1, b .pre .4 .few), hit-skip (b .args .left .now) (l .i) _ (c .before .before .bits-from .ensures) (b .args .words .now) (b .args .rows .now) (b .args .from) (b .args .stop) (b .args .n) (l .inv .0) (l .inv .2) _ (c .before .hit-in .ensures) (omega arith))
 
 returns-2 : tie.Need-returns-2 Inv-loop μ-loop
 returns-2 c = let b = c .before .before .before in
     let l = c .before .loop in
-    hit-none (b .args .words .now) (b .args .rows .now) (b .args .left .now) (b .args .from) (b .args .stop) (l .i) (l .inv .2) (b .pre .0) (omega arith)
+    hit-none (b .args .words .now) (b .args .rows .now) (b .args .left .now) (b .args .from) (b .args .stop) (b .args .n) (l .i) (l .inv .2) (b .pre .0) (b .pre .1) (omega arith)
 
 pub next-hit-spec : {M : Type 1} → statement M
 next-hit-spec =

@@ -12,10 +12,10 @@ use Rattle.search.proofs.next_open.Statement.{statement}
 use Rattle.search.proofs.next_open.Tie as tie
 
 abbrev Inv-loop : tie.InvT-loop
-Inv-loop left from n i₀ i = (from ≤ i) × (i < 4128) × ((j : ℕ) → from ≤ j → j < i → T (isOpen left j) → ⊥)
+Inv-loop left from n i₀ i = (from ≤ i) × (i ≤ 4096) × ((j : ℕ) → from ≤ j → j < i → T (isOpen left j) → ⊥)
 
 abbrev μ-loop : tie.MeasureT-loop
-μ-loop left from n i₀ i = 4128 - i
+μ-loop left from n i₀ i = 4096 - i
 
 loop-holds : tie.Need-loop-holds Inv-loop μ-loop
 loop-holds c = (omega arith, omega (arith, c .pre .0, c .pre .1), λ j a b. absurd (omega arith))
@@ -44,7 +44,7 @@ add-result c = omega (arith, trailing-le 32 (c .before .bits-from .result))
 returns : tie.Need-returns Inv-loop μ-loop
 returns c = let b = c .before .before .before .before .before in
     let l = c .before .before .before .before .loop in
-    next-found (b .args .left .now) (l .i) (c .before .bits-from .result) (c .before .bits-from .ensures) (b .args .n) (b .args .from) (l .inv .0) (l .inv .2) (c .if1 .taken) (let f : Fits w32 (c .before .bits-from .result) = search needs in f .fits)
+    next-found (b .args .left .now) (l .i) (c .before .bits-from .result) (c .before .bits-from .ensures) (b .args .n) (b .args .from) (l .inv .0) (l .inv .2) (b .pre .2) (c .if1 .taken) (let f : Fits w32 (c .before .bits-from .result) = search needs in f .fits)
 
 mul-i : tie.Need-mul-i Inv-loop μ-loop
 mul-i c = omega arith

@@ -23,20 +23,23 @@ loop-holds c = pruning-none _ _ _ _ (c .before .pre .partial) (c .before .pre .f
 next-hit-requires : tie.Need-next-hit-requires Inv-loop μ-loop
 next-hit-requires c κs = let b = c .before .before .before .before in
     let l = c .before .before .loop in
-    (l .inv .from, l .inv .stops, l .inv .narrowed .grown .partial .closed, λ i t. b .pre .fit i (l .inv .narrowed .fewer i t), b .pre .given)
+    (l .inv .turning .from, l .inv .turning .stops, l .inv .narrowed .grown .partial .closed, λ i t. b .pre .fit i (l .inv .narrowed .fewer i t), b .pre .given)
+
+cast-if1 : tie.Need-cast-if1 Inv-loop μ-loop
+cast-if1 c = omega arith
 
 constraint-at-requires : tie.Need-constraint-at-requires Inv-loop μ-loop
-constraint-at-requires c κs = room-at _ _ _ (c .before .before .before .before .before .before .pre .given) (omega (arith, c .before .before .before .before .loop .inv .stops))
+constraint-at-requires c κs = room-at _ _ _ (c .before .before .before .before .before .before .pre .given) (omega (arith, c .before .before .before .before .loop .inv .turning .stops))
 
 last-side-requires : tie.Need-last-side-requires Inv-loop μ-loop
 last-side-requires c κs = let l = c .before .before .before .before .before .before .loop in
     let e = c .before .constraint-at .ensures in
-    let x = nodes-of _ _ _ _ (c .before .before .before .before .before .before .before .before .pre .given) (omega (arith, l .inv .stops)) e in
+    let x = nodes-of _ _ _ _ (c .before .before .before .before .before .before .before .before .pre .given) (omega (arith, l .inv .turning .stops)) e in
     (x .0, x .1, l .inv .narrowed .grown .partial .closed, subst (λ (k : Constraint). T (shut (l .c) k)) (sym e) (c .before .before .before .next-hit .ensures .some (c .before .before .if1 .taken) .1))
 
 closed-off-requires : tie.Need-closed-off-requires Inv-loop μ-loop
 closed-off-requires c κs = let l = c .before .before .before .before .before .before .before .before .loop in
-    last-node _ _ _ _ (nodes-of _ _ _ _ (c .before .before .before .before .before .before .before .before .before .before .pre .given) (omega (arith, l .inv .stops)) (c .before .before .before .constraint-at .ensures)) (c .before .last-side .ensures)
+    last-node _ _ _ _ (nodes-of _ _ _ _ (c .before .before .before .before .before .before .before .before .before .before .pre .given) (omega (arith, l .inv .turning .stops)) (c .before .before .before .constraint-at .ensures)) (c .before .last-side .ensures)
 
 returns : tie.Need-returns Inv-loop μ-loop
 returns c = let b = c .before .before .before .before .before .before .before .before .before .before .before .before in
@@ -45,20 +48,23 @@ returns c = let b = c .before .before .before .before .before .before .before .b
 
 take-requires : tie.Need-take-requires Inv-loop μ-loop
 take-requires c κs = let l = c .before .before .before .before .before .before .before .before .before .before .loop in
-    (l .inv .narrowed .grown .partial, last-node _ _ _ _ (nodes-of _ _ _ _ (c .before .before .before .before .before .before .before .before .before .before .before .before .pre .given) (omega (arith, l .inv .stops)) (c .before .before .before .before .before .constraint-at .ensures)) (c .before .before .before .last-side .ensures), is-false _ _ (off-is _ _ _ _ (l .inv .narrowed .grown .partial .closed) (c .before .closed-off .ensures)) (c .if2 .left))
+    (l .inv .narrowed .grown .partial, last-node _ _ _ _ (nodes-of _ _ _ _ (c .before .before .before .before .before .before .before .before .before .before .before .before .pre .given) (omega (arith, l .inv .turning .stops)) (c .before .before .before .before .before .constraint-at .ensures)) (c .before .before .before .last-side .ensures), is-false _ _ (off-is _ _ _ _ (l .inv .narrowed .grown .partial .closed) (c .before .closed-off .ensures)) (c .if2 .left))
 
 drop-at-requires : tie.Need-drop-at-requires Inv-loop μ-loop
 drop-at-requires c κs = let l = c .before .before .before .before .before .before .before .before .before .before .before .before .loop in
-    (omega (arith, l .inv .stops, c .before .before .before .before .before .before .before .before .before .before .before .before .before .before .pre .given .few), c .before .before .before .before .before .before .before .before .before .next-hit .ensures .some (c .before .before .before .before .before .before .before .before .if1 .taken) .0)
+    (omega (arith, l .inv .turning .stops, c .before .before .before .before .before .before .before .before .before .before .before .before .before .before .pre .given .few), c .before .before .before .before .before .before .before .before .before .next-hit .ensures .some (c .before .before .before .before .before .before .before .before .if1 .taken) .0)
 
 add-i : tie.Need-add-i Inv-loop μ-loop
-add-i c = omega (arith, c .before .before .before .before .before .before .before .before .before .before .before .before .before .loop .inv .stops, c .before .before .before .before .before .before .before .before .before .before .before .before .before .before .before .pre .given .few)
+add-i c = omega (arith, c .before .before .before .before .before .before .before .before .before .before .before .before .before .loop .inv .turning .stops, c .before .before .before .before .before .before .before .before .before .before .before .before .before .before .before .pre .given .few)
+
+cast-again : tie.Need-cast-again Inv-loop μ-loop
+cast-again c = omega (arith, c .before .before .before .before .before .before .before .before .before .before .before .before .before .loop .inv .turning .stops, c .before .before .before .before .before .before .before .before .before .before .before .before .before .before .before .pre .given .few)
 
 loop-less : tie.Need-loop-less Inv-loop μ-loop
 loop-less c = let b = c .before .before .before .before .before .before .before .before .before .before .before .before .before .before .before in
     let l = c .before .before .before .before .before .before .before .before .before .before .before .before .before .loop in
     let h = c .before .before .before .before .before .before .before .before .before .if1 .taken in
-    omega (arith, l .inv .stops, b .pre .given .few, drop-falls _ _ _ (c .drop-at .ensures) (b .args .n) (omega (arith, l .inv .stops)) (c .before .before .before .before .before .before .before .before .before .before .next-hit .ensures .some h .0))
+    omega (arith, l .inv .turning .stops, b .pre .given .few, drop-falls _ _ _ (c .drop-at .ensures) (b .args .n) (omega (arith, l .inv .turning .stops)) (c .before .before .before .before .before .before .before .before .before .before .next-hit .ensures .some h .0))
 
 loop-again : tie.Need-loop-again Inv-loop μ-loop
 loop-again c = let l = c .before .before .before .before .before .before .before .before .before .before .before .before .before .loop in
@@ -85,6 +91,7 @@ prune-spec =
     μ-loop
     loop-holds
     next-hit-requires
+    cast-if1
     constraint-at-requires
     last-side-requires
     closed-off-requires
@@ -92,6 +99,7 @@ prune-spec =
     take-requires
     drop-at-requires
     add-i
+    cast-again
     loop-less
     loop-again
     returns-2

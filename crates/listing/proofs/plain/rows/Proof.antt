@@ -9,13 +9,13 @@ use Rattle.graph.specs.Members.{members}
 use Rattle.listing.specs.Choosing.{Chose, inRow}
 use Rattle.listing.specs.Plain.{PlainTable, plainMask, plainNumbersOf}
 use Rattle.listing.proofs.PlainFill.{plain-next, plain-begin, numbers-none, numbers-next}
-use Rattle.listing.proofs.Choosing.{row-few}
+use Rattle.listing.proofs.Counts.{bodies-low}
 use Rattle.listing.proofs.plain.rows.Statement.{statement}
 use Rattle.listing.proofs.plain.rows.Tie as tie
 
 abbrev Inv-loop : tie.InvT-loop
 Inv-loop log t writers from out₀ chosen₀ first count n₀ m₀ out chosen n m =
-    (m ≤ count) × (first ≡ startAt log t) × (count ≡ countAt log t) × (first + count ≤ 256) × (n ≤ 32 * (first + m)) × PlainTable log (startAt log t + m) out
+    (m ≤ count) × (first ≡ startAt log t) × (count ≡ countAt log t) × (first + count ≤ 256) × PlainTable log (startAt log t + m) out
     × Chose (plainNumbersOf log writers t m) from chosen₀ n chosen
 
 abbrev μ-loop : tie.MeasureT-loop
@@ -34,7 +34,6 @@ loop-holds c =
       c .before .start .ensures .0,
       c .count .ensures .0,
       omega arith,
-      omega (arith, c .before .start .ensures .0, s .pre .2),
       plain-begin _ (s .pre .0 .loads) _ _ (s .pre .3),
       numbers-none (s .args .log .now) (s .args .writers .now) _ _ _,
     )
@@ -70,7 +69,10 @@ mask-requires : tie.Need-mask-requires Inv-loop μ-loop
 mask-requires c κs = search needs
 
 choose-requires : tie.Need-choose-requires Inv-loop μ-loop
-choose-requires c κs = (omega arith, omega (arith, c .before .before .before .before .before .before .loop .inv .4))
+choose-requires c κs =
+    let l = c .before .before .before .before .before .before .loop in
+    let s = c .before .before .before .before .before .before .before .before .before .before in
+    (omega arith, omega (arith, l .inv .1, bodies-low _ _ _ _ (s .args .log .now) (s .args .writers .now) (s .args .t) (l .m) (s .pre .2) (l .inv .5)))
 
 add-m : tie.Need-add-m Inv-loop μ-loop
 add-m c = search needs
@@ -85,16 +87,14 @@ loop-again c =
     let a = s .args in
     let o = c .before .before .before .before .before .operation .ensures in
     let v = c .before .before .before .before .before .operation .result in
-    let first = l .inv .1 in
-    let row = c .before .before .before .before .before .before .before .before .before .start .result + l .m in (
+    let first = l .inv .1 in (
       omega arith,
       first,
       l .inv .2,
       l .inv .3,
-      omega (arith, l .inv .4, c .choose .ensures .count, row-few row (c .before .before .mask .result)),
       subst (λ (k : ℕ). PlainTable (a .log .now) (startAt (a .log .now) (a .t) + (l .m + 1)) (set (l .out) (k + l .m) (a .t + 32 * (v .argument % 32)))) (sym first)
-          (plain-next (a .log .now) (s .pre .0 .loads) (l .out) (a .t) (l .m) _ (s .pre .0 .below) (omega arith) (l .inv .5) (ap (λ (x : ℕ). a .t + 32 * (x % 32)) (o .argument-is))),
-      numbers-next (a .log .now) (a .writers .now) (a .t) (l .m) _ _ _ _ _ _ _ (l .inv .6)
+          (plain-next (a .log .now) (s .pre .0 .loads) (l .out) (a .t) (l .m) _ (s .pre .0 .below) (omega arith) (l .inv .4) (ap (λ (x : ℕ). a .t + 32 * (x % 32)) (o .argument-is))),
+      numbers-next (a .log .now) (a .writers .now) (a .t) (l .m) _ _ _ _ _ _ _ (l .inv .5)
           (c .before .before .mask .ensures ∙ ap (λ (k : ℕ). plainMask (getD (a .writers .now) k 0) (a .t) (v .kind) (v .argument)) (o .key-is)
           ∙ ap₂ (λ (x y : ℕ). plainMask (getD (a .writers .now) (operationAt (a .log .now) (startAt (a .log .now) (a .t) + l .m) .key) 0) (a .t) x y) (o .kind-is) (o .argument-is))
           (subst (λ (k : ℕ). Chose (inRow (k + l .m) (members (c .before .before .mask .result))) (l .n) (l .chosen) (c .choose .result) (c .choose .last .1 .1 .1 .0)) first (c .choose .ensures)),
@@ -105,8 +105,8 @@ returns c =
     let l = c .before .loop in
     let a = c .before .before .before .before .before .args in
     let end : l .m ≡ countAt (a .log .now) (a .t) = omega arith in (
-      subst (λ (k : ℕ). PlainTable (a .log .now) (startAt (a .log .now) (a .t) + k) (l .out)) end (l .inv .5),
-      subst (λ (k : ℕ). Chose (plainNumbersOf (a .log .now) (a .writers .now) (a .t) k) (a .from) (a .chosen .now) (l .n) (l .chosen)) end (l .inv .6),
+      subst (λ (k : ℕ). PlainTable (a .log .now) (startAt (a .log .now) (a .t) + k) (l .out)) end (l .inv .4),
+      subst (λ (k : ℕ). Chose (plainNumbersOf (a .log .now) (a .writers .now) (a .t) k) (a .from) (a .chosen .now) (l .n) (l .chosen)) end (l .inv .5),
     )
 
 pub rows-spec : {M : Type 1} → statement M

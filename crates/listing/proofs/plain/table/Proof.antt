@@ -4,13 +4,15 @@ use mathlib.Core.Path.{_≡_}
 use Prim.Native.Nat.{_≤_, _-_}
 use borrow.Author.Needs.{needs}
 use Rattle.model.specs.Log.{transactionsIn, countsBefore}
-use Rattle.listing.specs.Plain.{PlainTable}
-use Rattle.listing.proofs.PlainFill.{plain-start, plain-enter, plain-leave, plain-end, plain-mark, starts-low, Bodies, bodies-none, bodies-next, bodies-all}
+use Rattle.listing.specs.Choosing.{Chose}
+use Rattle.listing.specs.Plain.{plainNumbers, PlainTable}
+use Rattle.listing.proofs.Counts.{transactions-low}
+use Rattle.listing.proofs.PlainFill.{plain-start, plain-enter, plain-leave, plain-end, plain-mark, starts-low, bodies-none, bodies-next, bodies-all}
 use Rattle.listing.proofs.plain.table.Statement.{statement}
 use Rattle.listing.proofs.plain.table.Tie as tie
 
 abbrev Inv-loop : tie.InvT-loop
-Inv-loop log writers out₀ chosen₀ n count₀ t₀ out chosen count t = (t ≤ n) × (n ≡ transactionsIn log) × (n ≤ 32) × PlainTable log (countsBefore log t) out × Bodies log writers chosen₀ t count chosen
+Inv-loop log writers out₀ chosen₀ n count₀ t₀ out chosen count t = (t ≤ n) × (n ≡ transactionsIn log) × (n ≤ 32) × PlainTable log (countsBefore log t) out × Chose (plainNumbers log writers t) 0 chosen₀ count chosen
 
 abbrev μ-loop : tie.MeasureT-loop
 μ-loop log writers out₀ chosen₀ n count₀ t₀ out chosen count t = n - t
@@ -29,7 +31,7 @@ rows-requires c κs =
     let s = c .before .before .before .before .before .before in (
       record { loads = s .pre .0; below = omega arith },
       omega arith,
-      starts-low (s .args .log .now) (s .pre .0) (l .t) _ (omega arith) (l .inv .4 .low),
+      starts-low (s .args .log .now) (s .pre .0) (l .t) _ (omega arith) (transactions-low _ _ _ (s .args .log .now) (s .args .writers .now) (l .t) (l .inv .4)),
       plain-enter (s .args .log .now) (s .pre .0) _ (l .t) (omega arith) (l .inv .3),
     )
 

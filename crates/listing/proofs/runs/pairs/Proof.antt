@@ -8,7 +8,8 @@ use borrow.Author.Needs.{needs}
 use Rattle.graph.specs.Members.{members}
 use Rattle.graph.proofs.MemberLaws.{members-next, members-few, low-below}
 use Rattle.listing.specs.Runs.{pairsIn}
-use Rattle.listing.proofs.Choosing.{Going, going-next, going-end, row-few}
+use Rattle.listing.proofs.Choosing.{Going, going-next, going-end}
+use Rattle.listing.proofs.Counts.{row-few}
 use Rattle.listing.proofs.Stepping.{pairs-next, pairs-none}
 use Rattle.listing.proofs.runs.pairs.Statement.{statement}
 use Rattle.listing.proofs.runs.pairs.Tie as tie
@@ -37,7 +38,9 @@ add-choose c = omega (arith, low-below (c .before .before .loop .m) (c .before .
 choose-requires : tie.Need-choose-requires Inv-loop μ-loop
 choose-requires c κs =
     let l = c .before .before .before .loop in
-    (omega (arith, low-below (l .m) (l .inv .0) (c .before .before .loop-test .taken)), omega (arith, l .inv .1))
+    let r = c .before .clear-low in
+    let next = members-next (l .m) (r .result) (l .inv .0) (c .before .before .loop-test .taken) (r .ensures .1) in
+    (omega (arith, low-below (l .m) (l .inv .0) (c .before .before .loop-test .taken)), omega (arith, ap length next, l .inv .1))
 
 loop-less : tie.Need-loop-less Inv-loop μ-loop
 loop-less c = c .before .before .clear-low .ensures .0

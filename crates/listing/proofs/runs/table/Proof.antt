@@ -2,6 +2,7 @@
 use native.Mathlib.Omega.{arith}
 use Prim.Native.Nat.{_≤_, _-_}
 use borrow.Author.Needs.{needs}
+use Rattle.listing.proofs.Counts.{keys-low}
 use Rattle.listing.proofs.Keys.{Keys, keys-none, keys-next, keys-all}
 use Rattle.listing.proofs.runs.table.Statement.{statement}
 use Rattle.listing.proofs.runs.table.Tie as tie
@@ -16,7 +17,10 @@ loop-holds : tie.Need-loop-holds Inv-loop μ-loop
 loop-holds c = (omega arith, keys-none (c .args .encoding) (c .args .writers .now) (c .args .marks .now) (c .args .n) _ _)
 
 key-requires : tie.Need-key-requires Inv-loop μ-loop
-key-requires c κs = (omega arith, omega arith, omega (arith, c .before .before .before .loop .inv .1 .low))
+key-requires c κs =
+    let l = c .before .before .before .loop in
+    let a = c .before .before .before .before .args in
+    (omega arith, omega arith, omega (arith, keys-low _ _ _ (a .encoding) (a .writers .now) (a .marks .now) (l .k) (l .inv .1 .chose)))
 
 add-k : tie.Need-add-k Inv-loop μ-loop
 add-k c = search needs

@@ -22,6 +22,9 @@ abbrev μ-loop : tie.MeasureT-loop
 loop-holds : tie.Need-loop-holds Inv-loop μ-loop
 loop-holds c = passing-start _ _ _ _
 
+cast-loop : tie.Need-cast-loop Inv-loop μ-loop
+cast-loop c = search needs
+
 mul-c : tie.Need-mul-c Inv-loop μ-loop
 mul-c c = search needs
 
@@ -33,6 +36,9 @@ nth-requires c κs = search needs
 
 resolve-requires : tie.Need-resolve-requires Inv-loop μ-loop
 resolve-requires c κs = subst LowTargets (sym (c .nth .ensures)) (item-aimed _ _)
+
+cast-chosen : tie.Need-cast-chosen Inv-loop μ-loop
+cast-chosen c = search needs
 
 mul-chosen : tie.Need-mul-chosen Inv-loop μ-loop
 mul-chosen c = search needs
@@ -73,10 +79,12 @@ pass-spec =
     Inv-loop
     μ-loop
     loop-holds
+    cast-loop
     mul-c
     element-copy-out-c
     nth-requires
     resolve-requires
+    cast-chosen
     mul-chosen
     element-write-chosen
     add-kept

@@ -1,5 +1,6 @@
 -- `search::order::lighter` meets its contract. Assumes nothing.
 use native.Mathlib.Omega.{arith}
+use Rattle.search.proofs.Counts.{open-next}
 use Rattle.search.proofs.Lights.{lighter-none, lighter-next}
 use Rattle.search.proofs.Steps.{nodes-of, room-at}
 use Rattle.search.proofs.order.lighter.Statement.{statement}
@@ -42,7 +43,7 @@ loop-less : tie.Need-loop-less Inv-loop μ-loop
 loop-less c = omega (arith, c .before .before .before .before .before .next-open .ensures .bound)
 
 loop-again : tie.Need-loop-again Inv-loop μ-loop
-loop-again c = (omega arith, lighter-next _ _ _ _ _ _ _ (c .before .before .before .before .before .before .before .loop .inv .1) (c .before .opposite .ensures) (c .before .before .before .constraint-at .ensures) (c .drop-if .ensures))
+loop-again c = (open-next _ _ _ _ (c .before .before .before .before .before .next-open .ensures) (omega arith) .1, lighter-next _ _ _ _ _ _ _ (c .before .before .before .before .before .before .before .loop .inv .1) (c .before .opposite .ensures) (c .before .before .before .constraint-at .ensures) (c .drop-if .ensures))
 
 pub lighter-spec : {M : Type 1} → statement M
 lighter-spec =

@@ -5,39 +5,33 @@ use borrow.Author.Needs.{needs}
 use Rattle.search.proofs.order.open_word.Statement.{statement}
 use Rattle.search.proofs.order.open_word.Tie as tie
 
--- src/order.rt:169:8
 mul-if1 : tie.Need-mul-if1
 mul-if1 c = search needs
 
--- src/order.rt:170:9
 returns : tie.Need-returns
 returns c = λ b h. word-none _ _ b (c .if1 .taken)
 
--- src/order.rt:172:17
 mul-k : tie.Need-mul-k
 mul-k c = search needs
 
--- src/order.rt:172:13
+cast-k : tie.Need-cast-k
+cast-k c = search needs
+
 sub-k : tie.Need-sub-k
 sub-k c = search needs
 
--- src/order.rt:174:9
 numbers-requires : tie.Need-numbers-requires
 numbers-requires c κs = search needs
 
--- src/order.rt:174:9
 returns-2 : tie.Need-returns-2
 returns-2 c = λ b h. word-all _ _ _ b (omega arith) (c .numbers .ensures) h
 
--- src/order.rt:176:13
 cast-numbers : tie.Need-cast-numbers
 cast-numbers c = search needs
 
--- src/order.rt:176:5
 numbers-requires-2 : tie.Need-numbers-requires-2
 numbers-requires-2 c κs = search needs
 
--- src/order.rt:165:1
 returns-3 : tie.Need-returns-3
 returns-3 c = λ b h. word-some _ _ _ b (omega arith) (c .numbers2 .ensures)
 
@@ -48,6 +42,7 @@ open-word-spec =
     mul-if1
     returns
     mul-k
+    cast-k
     sub-k
     numbers-requires
     returns-2
