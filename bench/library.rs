@@ -16,6 +16,18 @@ mod calls {
             table: *mut u8,
             table_len: usize,
         ) -> u32;
+        pub fn beaconcrumb_decide_from(
+            log: *const u8,
+            log_len: usize,
+            start: *const u8,
+            start_len: usize,
+            encoding: u8,
+            pruning: u8,
+            order: *mut u8,
+            order_len: usize,
+            table: *mut u8,
+            table_len: usize,
+        ) -> u32;
         pub fn beaconcrumb_encode(log: *const u8, log_len: usize, encoding: u8, pruning: u8, out: *mut u8, out_len: usize) -> u32;
         pub fn beaconcrumb_check(log: *const u8, log_len: usize, order: *const u8, order_len: usize) -> u32;
     }
@@ -24,6 +36,9 @@ mod calls {
 #[cfg(nolib)]
 mod calls {
     pub unsafe fn beaconcrumb_decide(_: *const u8, _: usize, _: u8, _: u8, _: *mut u8, _: usize, _: *mut u8, _: usize) -> u32 {
+        unreachable!()
+    }
+    pub unsafe fn beaconcrumb_decide_from(_: *const u8, _: usize, _: *const u8, _: usize, _: u8, _: u8, _: *mut u8, _: usize, _: *mut u8, _: usize) -> u32 {
         unreachable!()
     }
     pub unsafe fn beaconcrumb_encode(_: *const u8, _: usize, _: u8, _: u8, _: *mut u8, _: usize) -> u32 {
@@ -36,6 +51,23 @@ mod calls {
 
 pub fn decide(log: &[u8], encoding: u8, pruning: u8, order: &mut [u8], table: &mut [u8]) -> u32 {
     unsafe { calls::beaconcrumb_decide(log.as_ptr(), log.len(), encoding, pruning, order.as_mut_ptr(), order.len(), table.as_mut_ptr(), table.len()) }
+}
+
+pub fn decide_from(log: &[u8], start: &[u8], encoding: u8, pruning: u8, order: &mut [u8], table: &mut [u8]) -> u32 {
+    unsafe {
+        calls::beaconcrumb_decide_from(
+            log.as_ptr(),
+            log.len(),
+            start.as_ptr(),
+            start.len(),
+            encoding,
+            pruning,
+            order.as_mut_ptr(),
+            order.len(),
+            table.as_mut_ptr(),
+            table.len(),
+        )
+    }
 }
 
 pub fn encode(log: &[u8], encoding: u8, pruning: u8, out: &mut [u8]) -> u32 {

@@ -1,4 +1,4 @@
-//! Are the programs that the checker is held against right? Against all permutations, document 01's histories, and the words of document 01 and cards 1 and 3.
+//! Are the programs that the checker is held against right? Against all permutations, document 01's histories, and the words of document 01 and cards 1, 3 and 5.
 
 use crate::tuned::Tuned;
 use crate::windows::{self, Dice, Kind, KINDS};
@@ -227,6 +227,64 @@ fn calls(tuned: &mut Tuned) {
     println!("the calls on 200 full windows: buffers, settings and 4000 orders ({legal} legal, {not} not) as document 01 says");
 }
 
+/// A starting table: random values, with many at both ends of the range; one of eight is 0 everywhere and one of eight 65535.
+fn start(dice: &mut Dice) -> [u8; 64] {
+    let ends = dice.below(8);
+    let mut start = [if ends == 0 { 0 } else { 255 }; 64];
+    for key in 0..32 {
+        let value = match dice.below(4) {
+            _ if ends < 2 => continue,
+            0 => 0u16,
+            1 => 65535,
+            _ => dice.below(65536) as u16,
+        };
+        start[2 * key..2 * key + 2].copy_from_slice(&value.to_le_bytes());
+    }
+    start
+}
+
+/// Windows that begin with levels: number and order are those from zeros, a key that the log writes has its last value and any other its level; a start that
+/// is not 64 bytes is 36, whatever the log.
+fn starts() {
+    let mut dice = Dice::new(8);
+    let (many, mut found, mut taken) = (20_000, 0, 0);
+    for i in 0..many {
+        let kind = KINDS[i % KINDS.len()].0;
+        let count = dice.below(33);
+        let mut log = windows::log(&windows::window(kind, count, &mut dice));
+        if i % 5 == 0 {
+            let at = dice.below(log.len());
+            log[at] = dice.below(40) as u8;
+        }
+        let start = start(&mut dice);
+        let (encoding, pruning) = SETTINGS[dice.below(6)];
+        let from = |start: &[u8]| {
+            let mut answer = Answer::blank(0);
+            answer.number = library::decide_from(&log, start, encoding, pruning, &mut answer.order, &mut answer.table);
+            answer
+        };
+        let mut right = by_library(&log, 2, 1);
+        same("a start of 64 zeros and none", &log, &from(&[0; 64]), &right);
+        if right.number == 0 {
+            let mut written = [false; 32];
+            plain::history(&log).0.iter().for_each(|(_, bodies)| bodies.iter().filter(|b| b.write).for_each(|b| written[b.key] = true));
+            for key in (0..32).filter(|&key| !written[key]) {
+                right.table[2 * key..2 * key + 2].copy_from_slice(&start[2 * key..2 * key + 2]);
+            }
+            found += 1;
+        }
+        same("a start and the levels that it leaves", &log, &from(&start), &right);
+        taken += (right.number == 0 || right.number == 255) as usize;
+        for len in [0, 1, 32, 63, 65, 128] {
+            let start = vec![start[0]; len];
+            same("a start that is not 64 bytes", &log, &from(&start), &Answer::blank(36));
+        }
+    }
+    same("36 before 1", &[], &library::decide_from(&[], &[0; 63], 9, 9, &mut [], &mut []), &36);
+    same("1 after 36", &[], &library::decide_from(&[], &[0; 64], 9, 9, &mut [], &mut []), &1);
+    println!("{many} windows from starting tables: {taken} taken, {found} with an order; code and order as from zeros, levels kept, other lengths 36");
+}
+
 /// Document 01's histories C, D and E, and E with read-backs: the constraints by encoding. F with a read-back has no order, and the edge 0→0.
 fn counts() {
     let histories: [(&str, &[&[(bool, usize)]], [usize; 4]); 4] = [
@@ -263,6 +321,7 @@ pub fn run() {
     numbers(&mut tuned, 7);
     if library::PRESENT {
         calls(&mut tuned);
+        starts();
     } else {
         println!("without the library: the checker was not asked");
     }

@@ -2,19 +2,19 @@
  * The proved checker, for programs in C. Link target/staticlib/libhost.a, which `rt staticlib host` writes (x86-64 Linux).
  *
  * A log has the layout of document 01 (../shared/01-scope.md): T transactions, at most 32, and N operations, at most 256, in at most 1,156 bytes.
- * Any bytes may be passed as a log or an order, and any number as a setting: what is wrong is refused by its number.
+ * Any bytes may be passed as a log, an order or a start, and any number as a setting: what is wrong is refused by its number.
  * Every call ends, keeps nothing and may be made from several threads at once. None reads or writes past the lengths that it is given.
  *
  * Of the caller is asked what C can't test: a pointer is not null and has as many bytes as the length after it says, also where that is 0,
  * and a buffer that a call writes to overlaps nothing else that the call is given.
  *
- * Stack: beaconcrumb_decide takes at most some 840 KB, most of it in the search, and the others at most some 180 KB (docs/DECISIONS.md), so a
- * thread that calls it should have 4 MB.
+ * Stack: beaconcrumb_decide and beaconcrumb_decide_from take at most some 840 KB, most of it in the search, and the others at most some 180 KB
+ * (docs/DECISIONS.md), so a thread that calls one should have 4 MB.
  *
  * In a transaction a key may be read, then written, then read back: a read after the write names its own transaction and is explained by that write.
  *
  * Numbers: 0 done; 1 to 11, 34 and 35 the log is refused, as listed below; 12 encoding over 2 or pruning over 1; 13 the order is not every number below T once;
- * 14 more than 4,096 constraints before pruning; 25 a buffer is too short; 255 no, as said below.
+ * 14 more than 4,096 constraints before pruning; 25 a buffer is too short; 36 the starting table (start) is not 64 bytes; 255 no, as said below.
  *
  * The numbers of a refused log, in the order of the tests: first the header and the length; then entry by entry, in each 4 before 5; then 6; then body by
  * body, in each 7, 8, 9, then 10 or 34, then 11. The first test that fails gives its number, and all before it have passed. That doesn't say that the
@@ -51,7 +51,10 @@ extern "C" {
 #endif
 
 /*
- * Finds the first legal order of a log, and the table that it leaves.
+ * Finds the first legal order of a log, and the table that it leaves where each key was 0 before the window.
+ * For a window whose levels before it are known use beaconcrumb_decide_from, below. This one is for a window that really begins with zeros, and for one
+ * whose levels are not known; of the latter only the keys that the log writes have a meaning in the table. Code and order are the same from both functions,
+ * where the start has its 64 bytes; beaconcrumb_encode and beaconcrumb_check take none, as their answers can't depend on it.
  * Takes the log, an encoding (0 plain, 1 joined, 2 chained) and pruning (0 or 1): where they are taken they change the time and
  * never the answer.
  * Gives 0 and writes the order, T numbers of one byte, and the table, 32 values by key of two bytes, low byte first.
@@ -61,6 +64,18 @@ extern "C" {
  */
 uint32_t beaconcrumb_decide(const uint8_t *log, size_t log_len, uint8_t encoding, uint8_t pruning,
                             uint8_t *order, size_t order_len, uint8_t *table, size_t table_len);
+
+/*
+ * The same of a window that begins with real levels: start holds the value of each key before the window's first transaction, 32 values by key of two
+ * bytes, low byte first, 64 bytes in all. That is the table's layout, so the 64 bytes that were written for one window can be the start of the next;
+ * in one call start and table are two buffers.
+ * The table written then has a meaning for every key: the last value that the order given writes to it or, where the log doesn't write it, its value in
+ * start. It is the table of the first legal order; where other orders are legal too, they may leave another.
+ * Gives 36 where start is not 64 bytes long, before it looks at the log; all else as beaconcrumb_decide, which is this function with 64 zeros. The start
+ * changes the table alone, never the code or the order.
+ */
+uint32_t beaconcrumb_decide_from(const uint8_t *log, size_t log_len, const uint8_t *start, size_t start_len, uint8_t encoding, uint8_t pruning,
+                                 uint8_t *order, size_t order_len, uint8_t *table, size_t table_len);
 
 /*
  * Writes the polygraph of a log in a setting: the known edges and the constraints that are left.

@@ -17,7 +17,7 @@ pub fn copy_bytes(from: &[u8], n: usize, out: &mut [u8])
 }
 
 // The same of values of 16 bits.
-pub(crate) fn copy_values(from: &[u16], n: usize, out: &mut [u16])
+pub fn copy_values(from: &[u16], n: usize, out: &mut [u16])
     requires { ⌜ (n ≤ length (now from)) × (n ≤ length (now out)) ⌝ }
     ensures { λ _. ⌜ now (out .exit) ≡ copied n (now (from .entry)) (now (out .entry)) ⌝ }
 {

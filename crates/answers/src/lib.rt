@@ -1,5 +1,5 @@
 // The answers of the calls, over plain parts: a log's bytes, a stage, an order, lists of numbers. `checker` takes a case apart and calls these.
-// `deciding` is what Decide finds, `stages` finds the stage that a case counts as, `settings` tests a setting and the places of lists, `judging` judges a proposed order,
+// `windows` has Load's number, `deciding` is what Decide finds, `stages` finds the stage that a case counts as, `settings` tests a setting and the places of lists, `judging` judges a proposed order,
 // `results` is for Order and Table, and `copies` puts the numbers of one list into another.
 ghost use mathlib.Core.Path.{_≡_};
 ghost use Rattle.answers.specs.Numbers.{numberOf};
@@ -10,6 +10,7 @@ pub mod judging;
 pub mod results;
 pub mod settings;
 pub mod stages;
+pub mod windows;
 
 // What a case says of itself: nothing loaded; a log; a log with an order that was decided; a log that was decided to have none.
 pub enum Stage {

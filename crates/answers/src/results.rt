@@ -22,11 +22,11 @@ pub fn refused_by(stage: Stage, needed: usize, places: usize) -> u8
     }
 }
 
-// The table which an order leaves, in the first 32 places.
-pub fn write_table(log: &[u8], order: &[u8], out: &mut [u16])
+// The table which an order leaves, from a starting one, in the first 32 places.
+pub fn write_table(log: &[u8], starting: [u16; 32], order: &[u8], out: &mut [u16])
     requires { ⌜ (loadNumber (now log) ≡ 0) × T (isOrder (transactionsIn (now log)) (now order)) × (32 ≤ length (now out)) ⌝ }
-    ensures { λ _. ⌜ now (out .exit) ≡ writtenTable (historyOf (now (log .entry))) (now (order .entry)) (now (out .entry)) ⌝ }
+    ensures { λ _. ⌜ now (out .exit) ≡ writtenTable (historyOf (now (log .entry))) starting (now (order .entry)) (now (out .entry)) ⌝ }
 {
-    let values = replay::tables::table(log, order);
+    let values = replay::tables::table(log, starting, order);
     copy_values(&values, 32, out);
 }

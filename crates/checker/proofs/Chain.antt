@@ -9,7 +9,8 @@ use mathlib.Core.Option.{Option, none, some}
 use lib.Dec.{T, eqb, ltb, leb, le→leb, ltb→lt}
 use lib.ListN.{length, take, drop, replicate, length-append}
 use lib.Seq.{take-at}
-use Rattle.model.specs.History.{size, isOrder, legal, finalTable}
+use Rattle.model.specs.History.{size, isOrder, legal, replay}
+use Rattle.model.specs.Window.{Window, window}
 use Rattle.model.specs.Log.{loadNumber, transactionsIn}
 use Rattle.model.specs.Lent.{orderNumbers, writtenOrder, writtenTable}
 use Rattle.model.proofs.Basics.{true-eq, false-eq, ne-eqb, eq-eqb, not-intro, and-in}
@@ -18,7 +19,7 @@ use Rattle.model.proofs.First.{legal-length, legal-order}
 use Rattle.answers.specs.declared.Stage.{Stage}
 use Rattle.answers.specs.declared.Stage.the-variants.{Loaded, Ordered, NoOrder}
 use Rattle.checker.specs.declared.Case.{Case}
-use Rattle.checker.specs.Cases.{contents, historyIn, orderIn, stageOf, inRoom, loadedCase}
+use Rattle.checker.specs.Cases.{contents, windowIn, historyIn, orderIn, stageOf, inRoom, loadedCase}
 use Rattle.answers.specs.Stages.{holdsLog, claimsOrder, counted, isFresh}
 use Rattle.checker.specs.Decisions.{decideRefusal, decidedCase}
 use Rattle.checker.specs.Encodings.{encodeRefusal}
@@ -44,16 +45,23 @@ loaded-contents : (b : List ℕ) → take (length b) (inRoom b) ≡ b
 unfolding inRoom
 loaded-contents b = take-at b (replicate (1156 - length b) 0) (length b) refl
 
--- it holds the log, and nothing else
-pub load-holds : (b : List ℕ) → contents (loadedCase b) ≡ b
+-- it holds the window, and nothing else
+pub load-holds : (w : Window) → contents (loadedCase w) ≡ w .bytes
 unfolding loadedCase
-load-holds b = loaded-contents b
+load-holds w = loaded-contents (w .bytes)
 
-pub load-stage : (b : List ℕ) → loadNumber b ≡ 0 → stageOf (loadedCase b) ≡ Loaded
+pub load-window : (w : Window) → windowIn (loadedCase w) ≡ w
+unfolding loadedCase
+load-window w = ap (λ b. window b (w .starting)) (loaded-contents (w .bytes))
+
+pub load-stage : (w : Window) → loadNumber (w .bytes) ≡ 0 → stageOf (loadedCase w) ≡ Loaded
 unfolding stageOf loadedCase counted holdsLog inRoom
-load-stage b e =
+load-stage w e =
     ap (λ (x : Bool). counted Loaded x (claimsOrder (inRoom b) (length b) (replicate 32 0))) (true-eq (holdsLog (inRoom b) (length b)) holds)
   where
+    b : List ℕ
+    b = w .bytes
+
     long : length b ≤ length (inRoom b)
     long = omega (arith, length-append b (replicate (1156 - length b) 0))
 
@@ -64,10 +72,14 @@ load-stage b e =
 
 -- ---- the case that Decide leaves
 
--- its log is the same, and so is its history
+-- its log is the same, and so are its window and its history
 pub decided-contents : (c : Case) (answer : Option (List ℕ)) → contents (decidedCase c answer) ≡ contents c
 unfolding decidedCase
 decided-contents c answer = refl
+
+pub decided-window : (c : Case) (answer : Option (List ℕ)) → windowIn (decidedCase c answer) ≡ windowIn c
+unfolding decidedCase
+decided-window c answer = refl
 
 -- after 'no order' it counts as decided without one
 pub none-stage : (c : Case) → isFresh (stageOf c) ≡ false → stageOf (decidedCase c none) ≡ NoOrder
@@ -85,7 +97,7 @@ module _ (c : Case) (ordered : stageOf c ≡ Ordered) where
   unfolding orderLeft
   order-left ys fits = taken (orderRefused c (length ys)) _ ys (ordered-number (length ys) ∙ has-room (length ys) (transactionsIn (contents c)) fits)
 
-  pub table-left : (ys : List ℕ) → 32 ≤ length ys → tableLeft c ys ≡ writtenTable (historyIn c) (orderIn c) ys
+  pub table-left : (ys : List ℕ) → 32 ≤ length ys → tableLeft c ys ≡ writtenTable (historyIn c) (c .starting) (orderIn c) ys
   unfolding tableLeft tableRefused refusedBy
   table-left ys fits = taken (tableRefused c (length ys)) _ ys (ap (λ (s : Stage). refusedBy s 32 (length ys)) ordered ∙ has-room (length ys) 32 fits)
 
@@ -117,10 +129,10 @@ module _ (c : Case) (o : List ℕ) (e : isFresh (stageOf c) ≡ false) (l : T (l
       len : length o ≡ transactionsIn (contents c)
       len = legal-length (historyIn c) o l ∙ history-size (contents c)
 
-  pub table-writes : (ys : List ℕ) → 32 ≤ length ys → tableLeft (decidedCase c (some o)) ys ≡ finalTable (historyIn c) o ++ drop 32 ys
+  pub table-writes : (ys : List ℕ) → 32 ≤ length ys → tableLeft (decidedCase c (some o)) ys ≡ replay (historyIn c) (c .starting) o ++ drop 32 ys
   unfolding writtenTable decidedCase
   table-writes ys fits =
-      table-left (decidedCase c (some o)) some-stage ys fits ∙ ap (λ (x : List ℕ). finalTable (historyIn c) x ++ drop 32 ys) some-order
+      table-left (decidedCase c (some o)) some-stage ys fits ∙ ap (λ (x : List ℕ). replay (historyIn c) (c .starting) x ++ drop 32 ys) some-order
 
 -- ---- a call that is not refused with 22 has a case that isn't fresh
 

@@ -1,33 +1,42 @@
 -- Demands 1, 2 and 3 of the calls, in the demands' own words, over what each call gives and leaves (`specs/`). The contracts in `src/lib.rt` are
 -- equations with these definitions, so that what is said here is said of the calls. Each theorem cites the law that proves it. Assumes nothing.
-use Prim.Native.Nat.{ℕ}
-use mathlib.Core.Path.{_≡_, ap, subst, _∙_}
-use mathlib.Core.Logic.{_≢_}
-use mathlib.Core.Bool.{_&&_}
-use mathlib.Core.List.{List}
-use lib.Dec.{eqb}
-use lib.ListN.{length}
+use Prim.Native.Nat.{ℕ, _<_}
+use native.Mathlib.Omega.{arith}
+use mathlib.Core.Path.{_≡_, refl, sym, ap, subst, _∙_}
+use mathlib.Core.Logic.{_↔_, _≢_}
+use mathlib.Core.Bool.{Bool, true, false, cond, _&&_}
+use mathlib.Core.List.{List, _++_}
+use lib.Dec.{eqb, leb}
+use lib.ListN.{length, getD, drop}
 use Rattle.model.specs.declared.Constraint.{Constraint}
-use Rattle.model.specs.History.{History, legal}
+use Rattle.model.specs.History.{start, legal, lastWriter, replay, valueOf}
 use Rattle.model.specs.Log.{historyOf}
+use Rattle.model.specs.Window.{Window, windowNumber, windowHistory, zeros, fromZeros}
 use Rattle.model.specs.Lent.{encodedList, encodedRows}
 use Rattle.model.proofs.Basics.{true-eq, eq-eqb}
+use Rattle.model.proofs.Windows.{number-of-log, table-iff, taken-long, taken-log}
+use Rattle.model.proofs.Demands.{every-read-sees-the-value-it-names}
+use Rattle.answers.specs.Stages.{isFresh, holdsLog}
 use Rattle.checker.specs.declared.Case.{Case}
-use Rattle.checker.specs.Cases.{contents, historyIn, loadedCase}
+use Rattle.checker.specs.Cases.{windowIn, historyIn, orderIn, stageOf, loadedCase}
 use Rattle.checker.specs.Calls.{loadRefusal, caseAfterLoad, checkRefusal, checkYes}
 use Rattle.checker.specs.Encodings.{encodeRefusal, encodeList, encodeRows}
 use Rattle.checker.specs.Decisions.{decideRefusal, refusedDecision, deciding, listAfterDecide}
 use Rattle.checker.specs.Results.{orderRefused, tableRefused, orderLeft, tableLeft}
 use Rattle.checker.specs.Demand.{Settles, Demand3}
-use Rattle.checker.proofs.Chain.{taken, refused, load-holds}
-use Rattle.checker.proofs.Whole.{lists-hold, lists-select, decide-lists, decision-settles, same-history, again-settles, again-same, load-counts, load-history}
+use Rattle.checker.specs.Starting.{Indifferent, AsBefore}
+use Rattle.checker.proofs.Chain.{taken, refused}
+use Rattle.checker.proofs.Writing.{table-stage, table-room}
+use Rattle.checker.proofs.Loads.{refusal-fresh, refusal-other, refusal-none}
+use Rattle.checker.proofs.Starting.{same-answers, load-replaces, decided-alike, decided-keeps, load-number-alike, load-alike, zeros-number, zeros-case, zeros-start, table-from, table-at}
+use Rattle.checker.proofs.Whole.{lists-hold, lists-select, decide-lists, decision-settles, same-window, again-settles, again-same, load-counts, after-load-holds}
 
 -- ---- Demand 1: each call ends and is safe (the gate proves that of every function); a refusal bears its number, and case and lent lists are
 -- the same bytes after it.
 
-pub load-refused-changes-nothing : (c : Case) (b : List ℕ) → loadRefusal c b ≢ 0 → caseAfterLoad c b ≡ c
+pub load-refused-changes-nothing : (c : Case) (w : Window) → loadRefusal c w ≢ 0 → caseAfterLoad c w ≡ c
 unfolding caseAfterLoad
-load-refused-changes-nothing c b f = refused (loadRefusal c b) (loadedCase b) c f
+load-refused-changes-nothing c w f = refused (loadRefusal c w) (loadedCase w) c f
 
 pub encode-refused-changes-nothing : (c : Case) (e pruning : ℕ) (ys : List Constraint) (ws : List ℕ) → encodeRefusal c e pruning (length ys) (length ws) ≢ 0
     → (encodeList c e pruning ys (length ws) ≡ ys) × (encodeRows c e pruning (length ys) ws ≡ ws)
@@ -53,13 +62,23 @@ pub table-refused-changes-nothing : (c : Case) (ys : List ℕ) → tableRefused 
 unfolding tableLeft
 table-refused-changes-nothing c ys f = refused (tableRefused c (length ys)) _ ys f
 
--- A log that is not refused is taken into a case that counts as fresh, and the case then holds it. Which logs these are say the model's
--- `load-takes-only-well-formed`, `load-takes-only-laid-out` and `load-takes-every-well-formed`.
-pub good-log-is-loaded : (c : Case) (b : List ℕ) → loadRefusal c b ≡ 0
-    → (contents (caseAfterLoad c b) ≡ b) × (historyIn (caseAfterLoad c b) ≡ historyOf b)
-unfolding caseAfterLoad
-good-log-is-loaded c b e =
-    let is = ap contents (taken (loadRefusal c b) (loadedCase b) c e) ∙ load-holds b in (is, ap historyOf is)
+-- A window that is not refused is taken into a case that counts as fresh, and the case then holds it: the log, with its history, and the starting table,
+-- of 32 values. Which logs are taken say the model's `load-takes-only-well-formed`, `load-takes-only-laid-out` and `load-takes-every-well-formed`.
+pub good-window-is-loaded : (c : Case) (w : Window) → loadRefusal c w ≡ 0
+    → (windowIn (caseAfterLoad c w) ≡ w) × (historyIn (caseAfterLoad c w) ≡ historyOf (w .bytes)) × (length (w .starting) ≡ 32)
+good-window-is-loaded c w e =
+    let is = after-load-holds c w e in (is, ap windowHistory is, taken-long w (refusal-none c w e))
+
+-- 36 is given exactly where the case counts as fresh and the starting table isn't 32 values, whatever the log.
+pub thirty-six-after-21-and-before-the-log : (c : Case) (w : Window) → (loadRefusal c w ≡ 36) ↔ ((isFresh (stageOf c) ≡ true) × (length (w .starting) ≢ 32))
+thirty-six-after-21-and-before-the-log c w = (
+  (λ e. go (isFresh (stageOf c)) refl e),
+  λ x. refusal-fresh c w (x .0) ∙ table-iff w .1 (x .1),
+)
+  where
+    go : (b : Bool) → isFresh (stageOf c) ≡ b → loadRefusal c w ≡ 36 → (b ≡ true) × (length (w .starting) ≢ 32)
+    go true f e = (refl, table-iff w .0 (sym (refusal-fresh c w f) ∙ e))
+    go false f e = absurd (omega (arith, e, refusal-other c w f))
 
 -- ---- Demand 2: the polygraph handed out is the papers', edge for edge and constraint for constraint; a proposed order is accepted exactly
 -- when it is legal.
@@ -79,7 +98,12 @@ check-accepts-exactly-the-legal c o e = ap (λ b. b && legal (historyIn c) o) (t
 -- ---- Demand 3, in one piece: `Demand3` in specs/Demand.antt says it. What Encode hands out is the polygraph, and has an acyclic selection exactly
 -- when a legal order exists; Decide says 'no order' exactly where none exists, and else gives the legal order that has, against every other legal
 -- one, the lower number at the first place where the two differ; Order and Table then write it and the table which its replay leaves. In all six
--- settings, whatever was decided before and whatever the lists held, and from the log's bytes on.
+-- settings, whatever was decided before and whatever the lists held, and from the log's bytes and the starting table on.
+
+settled : (c : Case) (w : Window) → loadRefusal c w ≡ 0 → (e pruning places : ℕ) → decideRefusal (caseAfterLoad c w) e pruning places ≡ 0
+    → Settles w (deciding (caseAfterLoad c w) e pruning places)
+settled c w runs e pruning places r =
+    subst (λ (v : Window). Settles v (deciding (caseAfterLoad c w) e pruning places)) (after-load-holds c w runs) (decision-settles (caseAfterLoad c w) e pruning places r)
 
 pub demand-3 : Demand3
 demand-3 = record {
@@ -88,11 +112,48 @@ demand-3 = record {
     selection = lists-select c e pruning ys ws;
     listed = decide-lists c e pruning ys;
     settles = decision-settles c e pruning (length ys);
-    again = λ runs e′ pruning′ places runs′. (same-history c e pruning (length ys) runs, again-settles c e pruning (length ys) runs e′ pruning′ places runs′, again-same c e pruning (length ys) runs e′ pruning′ places runs′);
+    again = λ runs e′ pruning′ places runs′. (same-window c e pruning (length ys) runs, again-settles c e pruning (length ys) runs e′ pruning′ places runs′, again-same c e pruning (length ys) runs e′ pruning′ places runs′);
   };
-  bytes = λ c b runs. record {
-    loaded = load-counts c b runs;
-    holds = load-history c b runs;
-    settles = λ e pruning places r. subst (λ (h : History). Settles h (deciding (caseAfterLoad c b) e pruning places)) (load-history c b runs) (decision-settles (caseAfterLoad c b) e pruning places r);
+  bytes = λ c w runs. record {
+    loaded = load-counts c w runs;
+    holds = after-load-holds c w runs;
+    settles = settled c w runs;
+    values = λ e pruning places r said.
+        let n = refusal-none c w runs in
+        every-read-sees-the-value-it-names (w .bytes) (taken-log w n) _ (w .starting) (taken-long w n) (settled c w runs e pruning places r .first said .0);
   };
 }
+
+-- ---- Card 5: the starting table decides nothing but Table's values, and 32 zeros give what Load gave before it took a table. `Indifferent` and
+-- `AsBefore` in specs/Starting.antt say it.
+
+pub starting-table-decides-nothing : Indifferent
+starting-table-decides-nothing = record { answers = same-answers; decided = decided-alike; replaced = load-replaces; number = load-number-alike; loaded = load-alike }
+
+pub thirty-two-zeros-as-before : (c : Case) (b : List ℕ) → AsBefore c b
+unfolding loadedCase
+thirty-two-zeros-as-before c b = record {
+  number = zeros-number c b;
+  case = zeros-case c b;
+  table = λ runs e pruning places ys. table-from (deciding (caseAfterLoad c (fromZeros b)) e pruning places .case) zeros (zeros-start c b runs e pruning places) ys;
+}
+
+-- What Table writes of any case, decided by Decide or put together outside, is the replay of its order from its own starting table; and Decide leaves that as it was.
+pub table-starts-from-the-table-of-the-case : (c : Case) (ys : List ℕ)
+    → tableLeft c ys ≡ cond (eqb (tableRefused c (length ys)) 0) (replay (historyIn c) (c .starting) (orderIn c) ++ drop 32 ys) ys
+table-starts-from-the-table-of-the-case c ys = table-from c (c .starting) refl ys
+
+pub decide-keeps-the-starting-table : (c : Case) (e pruning places : ℕ) → deciding c e pruning places .case .starting ≡ c .starting
+decide-keeps-the-starting-table c e pruning places = decided-keeps c e pruning places
+
+-- A case put together outside counts as fresh where Load would refuse the window that it holds: with 32 values, as every case has them, that is what `stageOf` asks of its log.
+pub counts-by-what-Load-would-say : (c : Case) → length (c .starting) ≡ 32
+    → holdsLog (c .bytes) (c .length) ≡ (leb (c .length) (length (c .bytes)) && eqb (windowNumber (windowIn c)) 0)
+unfolding holdsLog
+counts-by-what-Load-would-say c long = ap (λ n. leb (c .length) (length (c .bytes)) && eqb n 0) (sym (number-of-log (windowIn c) long))
+
+-- So where Table isn't refused a key that no transaction of the order writes has its starting value, and any other what its last writer wrote: by `lastWriter`, of
+-- which the model's `replay-at-a-key` says that it gives the start exactly where none writes the key.
+pub a-key-in-the-table : (c : Case) → length (c .starting) ≡ 32 → (ys : List ℕ) → tableRefused c (length ys) ≡ 0 → (k : ℕ) → k < 32
+    → getD (tableLeft c ys) k 0 ≡ valueOf (historyIn c) (c .starting) k (lastWriter (historyIn c) k start (orderIn c))
+a-key-in-the-table c long ys runs k low = table-at c (table-stage c (length ys) runs) long ys (table-room c (length ys) runs) k low

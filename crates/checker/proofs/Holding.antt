@@ -1,13 +1,14 @@
 -- What a case that isn't fresh holds, and the bytes of a log in the room of a case. Assumes nothing.
 use Prim.Native.Nat.{ℕ, zero, suc, _+_, _-_, _≤_}
 use native.Mathlib.Omega.{arith}
-use mathlib.Core.Path.{_≡_, ap, ap₂, _∙_}
+use mathlib.Core.Path.{_≡_, sym, ap, ap₂, _∙_}
 use mathlib.Core.Bool.{false}
-use mathlib.Core.List.{List, _++_}
+use mathlib.Core.List.{List, _++_, append-nil}
 use lib.Dec.{T}
-use lib.ListN.{length, drop, replicate}
+use lib.ListN.{length, take, drop, replicate}
 use lib.Seq.{take-length}
 use Rattle.model.specs.Log.{loadNumber}
+use Rattle.model.specs.Window.{Window}
 use Rattle.model.proofs.Loaded.{loaded}
 use Rattle.answers.specs.declared.Stage.the-variants.{Loaded as SaysLoaded}
 use Rattle.checker.specs.declared.Case.{Case}
@@ -43,9 +44,15 @@ in-room b r l e =
     let sum : 1156 ≡ length b + (1156 - length b) = omega arith in
     e ∙ ap₂ {C = List ℕ} (λ (x y : List ℕ). x ++ y) (take-length b) (ap (λ k. drop (length b) (replicate k 0)) sum ∙ drop-zeros (length b) (1156 - length b))
 
-pub loaded-is : (b bytes : List ℕ) → bytes ≡ inRoom b → record { stage = SaysLoaded; bytes = bytes; length = length b; order = replicate 32 0 } ≡ loadedCase b
+-- 32 values in the room of 32
+pub values-copied : (s r : List ℕ) → length s ≡ 32 → r ≡ copied 32 s (replicate 32 0) → r ≡ s
+values-copied s r long e =
+    e ∙ ap (λ n. take n s ++ drop 32 (replicate 32 0)) (sym long) ∙ ap (λ l. l ++ drop 32 (replicate 32 0)) (take-length s) ∙ append-nil s
+
+pub loaded-is : (w : Window) (bytes values : List ℕ) → bytes ≡ inRoom (w .bytes) → values ≡ w .starting
+    → record { stage = SaysLoaded; bytes = bytes; length = length (w .bytes); starting = values; order = replicate 32 0 } ≡ loadedCase w
 unfolding loadedCase
-loaded-is b bytes e = ap held e
+loaded-is w bytes values e s = ap₂ held e s
   where
-    held : List ℕ → Case
-    held xs = record { stage = SaysLoaded; bytes = xs; length = length b; order = replicate 32 0 }
+    held : List ℕ → List ℕ → Case
+    held xs vs = record { stage = SaysLoaded; bytes = xs; length = length (w .bytes); starting = vs; order = replicate 32 0 }

@@ -8,6 +8,7 @@ pub mod Callees
 pub mod Verdicts
 pub mod Chain
 pub mod Whole
+pub mod Starting
 pub mod Demands
 pub mod Preparing
 pub mod Lending

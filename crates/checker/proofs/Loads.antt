@@ -4,9 +4,8 @@ use native.Mathlib.Omega.{arith}
 use mathlib.Core.Path.{_≡_, sym, ap, ap₂, _∙_}
 use mathlib.Core.Logic.{_≢_}
 use mathlib.Core.Bool.{Bool, true, false, cond}
-use mathlib.Core.List.{List}
 use borrow.Author.Tests.{eq-eqb, ne-eqb}
-use Rattle.model.specs.Log.{loadNumber}
+use Rattle.model.specs.Window.{Window, windowNumber}
 use Rattle.checker.specs.declared.Case.{Case}
 use Rattle.checker.specs.declared.Answer.{Answer}
 use Rattle.answers.specs.declared.Reply.{Reply}
@@ -19,20 +18,20 @@ use Rattle.answers.proofs.Answering.{reply-none, reply-some}
 
 -- ---- the number
 
-module _ (c : Case) (b : List ℕ) where
-  pub refusal-fresh : isFresh (stageOf c) ≡ true → loadRefusal c b ≡ loadNumber b
+module _ (c : Case) (w : Window) where
+  pub refusal-fresh : isFresh (stageOf c) ≡ true → loadRefusal c w ≡ windowNumber w
   unfolding loadRefusal
-  refusal-fresh e = ap (λ x. cond x (loadNumber b) 21) e
+  refusal-fresh e = ap (λ x. cond x (windowNumber w) 21) e
 
-  pub refusal-other : isFresh (stageOf c) ≡ false → loadRefusal c b ≡ 21
+  pub refusal-other : isFresh (stageOf c) ≡ false → loadRefusal c w ≡ 21
   unfolding loadRefusal
-  refusal-other e = ap (λ x. cond x (loadNumber b) 21) e
+  refusal-other e = ap (λ x. cond x (windowNumber w) 21) e
 
-  pub refusal-none : loadRefusal c b ≡ 0 → loadNumber b ≡ 0
+  pub refusal-none : loadRefusal c w ≡ 0 → windowNumber w ≡ 0
   unfolding loadRefusal
   refusal-none e = go (isFresh (stageOf c)) e
     where
-      go : (x : Bool) → _≡_ {A = ℕ} (cond x (loadNumber b) 21) 0 → loadNumber b ≡ 0
+      go : (x : Bool) → _≡_ {A = ℕ} (cond x (windowNumber w) 21) 0 → windowNumber w ≡ 0
       go true p = p
       go false p = absurd (omega (arith, p))
 
@@ -41,13 +40,13 @@ module _ (c : Case) (b : List ℕ) where
   abbrev answer : Case → Reply → Answer
   answer x r = record { case = x; reply = r }
 
-  pub load-refused : (n : ℕ) → n ≡ loadRefusal c b → n ≢ 0 → record { case = c; reply = Refused n } ≡ loading c b
+  pub load-refused : (n : ℕ) → n ≡ loadRefusal c w → n ≢ 0 → record { case = c; reply = Refused n } ≡ loading c w
   unfolding loading caseAfterLoad
   load-refused n e f =
-      let g : loadRefusal c b ≢ 0 = λ z. f (e ∙ z) in
-      ap₂ answer (sym (ap (λ x. cond x (loadedCase b) c) (ne-eqb (loadRefusal c b) 0 g))) (sym (reply-some n f) ∙ ap replyOf e)
+      let g : loadRefusal c w ≢ 0 = λ z. f (e ∙ z) in
+      ap₂ answer (sym (ap (λ x. cond x (loadedCase w) c) (ne-eqb (loadRefusal c w) 0 g))) (sym (reply-some n f) ∙ ap replyOf e)
 
-  pub load-taken : (d : Case) → loadRefusal c b ≡ 0 → d ≡ loadedCase b → record { case = d; reply = Taken } ≡ loading c b
+  pub load-taken : (d : Case) → loadRefusal c w ≡ 0 → d ≡ loadedCase w → record { case = d; reply = Taken } ≡ loading c w
   unfolding loading caseAfterLoad
   load-taken d e p =
-      ap₂ answer (p ∙ sym (ap (λ x. cond x (loadedCase b) c) (eq-eqb (loadRefusal c b) 0 e))) (sym (reply-none (loadRefusal c b) e))
+      ap₂ answer (p ∙ sym (ap (λ x. cond x (loadedCase w) c) (eq-eqb (loadRefusal c w) 0 e))) (sym (reply-none (loadRefusal c w) e))

@@ -11,14 +11,16 @@ use lib.ListN.{length, take, drop}
 use lib.Seq.{take-at}
 use Rattle.model.specs.declared.Constraint.{Constraint}
 use Rattle.model.specs.Lists.{wordOf, bit}
-use Rattle.model.specs.History.{History, size, legal, finalTable}
-use Rattle.model.specs.Log.{transactionsIn, loadNumber, historyOf}
+use Rattle.model.specs.History.{History, size, legal, replay}
+use Rattle.model.specs.Log.{transactionsIn}
+use Rattle.model.specs.Window.{Window, windowHistory}
 use Rattle.model.specs.Polygraph.{Polygraph, has, rows, edge, withSide, closedOff, pass, passes, unpruned, constraints, polygraph, AcyclicSelection}
 use Rattle.model.specs.Lent.{orderNumbers, encodedList, encodedRows, encodedCount}
 use Rattle.model.specs.Search.{firstLegal}
 use Rattle.model.proofs.Words.{length-upTo}
 use Rattle.model.proofs.First.{first-some, first-none, legal-length}
 use Rattle.model.proofs.Loaded.{loadable-log, history-size}
+use Rattle.model.proofs.Windows.{taken-log}
 use Rattle.model.proofs.Selection.{serializable}
 use Rattle.answers.specs.declared.Stage.{Stage}
 use Rattle.answers.specs.declared.Stage.the-variants.{Fresh, Loaded, Ordered, NoOrder}
@@ -26,7 +28,7 @@ use Rattle.answers.specs.declared.Verdict.{Verdict}
 use Rattle.answers.specs.declared.Verdict.the-variants.{Order, NoOrder as NoOrderSaid, Refused}
 use Rattle.checker.specs.declared.Case.{Case}
 use Rattle.checker.specs.declared.Decision.{Decision}
-use Rattle.checker.specs.Cases.{contents, historyIn, stageOf, loadedCase}
+use Rattle.checker.specs.Cases.{contents, windowIn, historyIn, stageOf, loadedCase}
 use Rattle.answers.specs.Stages.{isFresh}
 use Rattle.checker.specs.Calls.{loadRefusal, caseAfterLoad}
 use Rattle.checker.specs.Encodings.{encodeRefusal, encodeAnswer, encodeList, encodeRows}
@@ -36,7 +38,8 @@ use Rattle.checker.specs.Results.{orderRefused, tableRefused}
 use Rattle.checker.specs.Demand.{inLists, handedOut, Serializable, IsFirst, Settles, SameAnswer}
 use Rattle.checker.proofs.Holding.{case-loads}
 use Rattle.checker.proofs.Verdicts.{numbers-of}
-use Rattle.checker.proofs.Chain.{taken, load-holds, load-stage, encode-held, not-refused, decided-contents, none-stage, some-stage, order-writes, table-writes}
+use Rattle.checker.proofs.Loads.{refusal-none}
+use Rattle.checker.proofs.Chain.{taken, load-window, load-stage, encode-held, not-refused, decided-contents, decided-window, none-stage, some-stage, order-writes, table-writes}
 use Rattle.answers.proofs.Holding.{refused-none}
 
 -- ---- the row words of a polygraph are 32
@@ -150,7 +153,7 @@ module _ (c : Case) (n : ℕ) (held : isFresh (stageOf c) ≡ false) where
   abbrev hc : History
   hc = historyIn c
 
-  settles-none : firstLegal hc ≡ none → Settles hc (decided c none n)
+  settles-none : firstLegal hc ≡ none → Settles (windowIn c) (decided c none n)
   unfolding decided orderRefused tableRefused
   settles-none is = record {
     none = (λ p s. first-none hc is (s .0) (s .1), λ f. refl);
@@ -162,7 +165,7 @@ module _ (c : Case) (n : ℕ) (held : isFresh (stageOf c) ≡ false) where
     table = λ out r. absurd (none-not-ordered (sym (none-stage c held) ∙ refused-none _ _ _ r .ordered));
   }
 
-  settles-some : (o : List ℕ) → firstLegal hc ≡ some o → Settles hc (decided c (some o) n)
+  settles-some : (o : List ℕ) → firstLegal hc ≡ some o → Settles (windowIn c) (decided c (some o) n)
   unfolding decided orderRefused tableRefused
   settles-some o is = record {
     none = (λ p. absurd (order-not-none p), λ f. absurd (f (o, l)));
@@ -171,7 +174,7 @@ module _ (c : Case) (n : ℕ) (held : isFresh (stageOf c) ≡ false) where
     none-stage = λ p. absurd (order-not-none p);
     some-stage = λ p. some-stage c o held l;
     order = λ out r. order-writes c o held l out (room out r) ∙ ap₂ {C = List ℕ} (λ (x : List ℕ) (m : ℕ). x ++ drop m out) (sym numbers) (legal-length hc o l);
-    table = λ out r. table-writes c o held l out (refused-none _ _ _ r .room) ∙ ap (λ (x : List ℕ). finalTable hc x ++ drop 32 out) (sym numbers);
+    table = λ out r. table-writes c o held l out (refused-none _ _ _ r .room) ∙ ap (λ (x : List ℕ). replay hc (c .starting) x ++ drop 32 out) (sym numbers);
   }
     where
       l : T (legal hc o)
@@ -185,10 +188,10 @@ module _ (c : Case) (n : ℕ) (held : isFresh (stageOf c) ≡ false) where
           let fits = refused-none _ _ _ r .room in
           omega (arith, fits, legal-length hc o l, history-size (contents c), ap transactionsIn (decided-contents c (some o)))
 
-  pub decided-settles : Settles hc (decided c (firstLegal hc) n)
+  pub decided-settles : Settles (windowIn c) (decided c (firstLegal hc) n)
   decided-settles = go (firstLegal hc) refl
     where
-      go : (x : Option (List ℕ)) → firstLegal hc ≡ x → Settles hc (decided c x n)
+      go : (x : Option (List ℕ)) → firstLegal hc ≡ x → Settles (windowIn c) (decided c x n)
       go none is = settles-none is
       go (some o) is = settles-some o is
 
@@ -198,17 +201,17 @@ module _ (c : Case) (e pruning places : ℕ) (runs : decideRefusal c e pruning p
   unfolding deciding
   decision-is = taken (decideRefusal c e pruning places) _ (refusedDecision c (decideRefusal c e pruning places)) runs
 
-  pub decision-settles : Settles (historyIn c) (deciding c e pruning places)
+  pub decision-settles : Settles (windowIn c) (deciding c e pruning places)
   decision-settles =
-      subst (Settles (historyIn c)) (sym decision-is) (decided-settles c (encodedCount (historyIn c) e pruning) (not-refused c e pruning places runs))
+      subst (Settles (windowIn c)) (sym decision-is) (decided-settles c (encodedCount (historyIn c) e pruning) (not-refused c e pruning places runs))
 
-  -- its case is the one with the answer stored, which holds the same history
+  -- its case is the one with the answer stored, which holds the same window
   pub case-is : deciding c e pruning places .case ≡ decidedCase c (firstLegal (historyIn c))
   unfolding decided
   case-is = ap (λ (d : Decision). d .case) decision-is
 
-  pub same-history : historyIn (deciding c e pruning places .case) ≡ historyIn c
-  same-history = ap historyIn case-is ∙ ap historyOf (decided-contents c (firstLegal (historyIn c)))
+  pub same-window : windowIn (deciding c e pruning places .case) ≡ windowIn c
+  same-window = ap windowIn case-is ∙ decided-window c (firstLegal (historyIn c))
 
 -- storing an answer twice is storing it once
 stored-again : (c : Case) (x y : Option (List ℕ)) → decidedCase (decidedCase c x) y ≡ decidedCase c y
@@ -224,11 +227,11 @@ module _ (c : Case) (e pruning places : ℕ) (runs : decideRefusal c e pruning p
     x = firstLegal (historyIn c)
 
     x-is : firstLegal (historyIn after) ≡ x
-    x-is = ap firstLegal (same-history c e pruning places runs)
+    x-is = ap (λ (w : Window). firstLegal (windowHistory w)) (same-window c e pruning places runs)
 
-    pub again-settles : Settles (historyIn c) (deciding after e′ pruning′ places′)
+    pub again-settles : Settles (windowIn c) (deciding after e′ pruning′ places′)
     again-settles =
-        subst (λ (h : History). Settles h (deciding after e′ pruning′ places′)) (same-history c e pruning places runs) (decision-settles after e′ pruning′ places′ runs′)
+        subst (λ (w : Window). Settles w (deciding after e′ pruning′ places′)) (same-window c e pruning places runs) (decision-settles after e′ pruning′ places′ runs′)
 
     pub again-same : SameAnswer (deciding c e pruning places) (deciding after e′ pruning′ places′)
     unfolding decided
@@ -256,18 +259,13 @@ decide-lists c e pruning ys runs =
 
 -- ---- Load
 
-module _ (c : Case) (b : List ℕ) (runs : loadRefusal c b ≡ 0) where
-  pub after-load : caseAfterLoad c b ≡ loadedCase b
+module _ (c : Case) (w : Window) (runs : loadRefusal c w ≡ 0) where
+  pub after-load : caseAfterLoad c w ≡ loadedCase w
   unfolding caseAfterLoad
-  after-load = taken (loadRefusal c b) (loadedCase b) c runs
+  after-load = taken (loadRefusal c w) (loadedCase w) c runs
 
-  pub load-counts : stageOf (caseAfterLoad c b) ≡ Loaded
-  unfolding loadRefusal
-  load-counts = ap stageOf after-load ∙ load-stage b (go (isFresh (stageOf c)) (loadNumber b) runs)
-    where
-      go : (fresh : Bool) (n : ℕ) → cond fresh n 21 ≡ 0 → n ≡ 0
-      go true n r = r
-      go false n r = absurd (omega arith)
+  pub load-counts : stageOf (caseAfterLoad c w) ≡ Loaded
+  load-counts = ap stageOf after-load ∙ load-stage w (taken-log w (refusal-none c w runs))
 
-  pub load-history : historyIn (caseAfterLoad c b) ≡ historyOf b
-  load-history = ap historyIn after-load ∙ ap historyOf (load-holds b)
+  pub after-load-holds : windowIn (caseAfterLoad c w) ≡ w
+  after-load-holds = ap windowIn after-load ∙ load-window w

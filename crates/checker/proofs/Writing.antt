@@ -98,16 +98,16 @@ module _ (c : Case) where
 
     pub table-as-was : tableRefused c (length ys) ≢ 0 → ys ≡ tableLeft c ys
     unfolding tableLeft
-    table-as-was f = as-was (tableRefused c (length ys)) (writtenTable (historyIn c) (orderIn c) ys) f
+    table-as-was f = as-was (tableRefused c (length ys)) (writtenTable (historyIn c) (c .starting) (orderIn c) ys) f
 
-    pub table-left : (zs : List ℕ) → tableRefused c (length ys) ≡ 0 → zs ≡ writtenTable (historyIn c) (orderIn c) ys → zs ≡ tableLeft c ys
+    pub table-left : (zs : List ℕ) → tableRefused c (length ys) ≡ 0 → zs ≡ writtenTable (historyIn c) (c .starting) (orderIn c) ys → zs ≡ tableLeft c ys
     unfolding tableLeft
-    table-left zs e p = p ∙ written (tableRefused c (length ys)) (writtenTable (historyIn c) (orderIn c) ys) e
+    table-left zs e p = p ∙ written (tableRefused c (length ys)) (writtenTable (historyIn c) (c .starting) (orderIn c) ys) e
 
     -- what is written, as the code copies it
     pub order-written : (n : ℕ) (zs : List ℕ) → n ≡ transactionsIn (contents c) → zs ≡ copied n (c .order) ys → zs ≡ writtenOrder (transactionsIn (contents c)) (c .order) ys
     unfolding writtenOrder
     order-written n zs p e = e ∙ ap (λ k. copied k (c .order) ys) p
 
-    pub table-written : (n : ℕ) (zs : List ℕ) → n ≡ transactionsIn (contents c) → zs ≡ writtenTable (historyIn c) (take n (c .order)) ys → zs ≡ writtenTable (historyIn c) (orderIn c) ys
-    table-written n zs p e = e ∙ ap (λ k. writtenTable (historyIn c) (take k (c .order)) ys) p
+    pub table-written : (n : ℕ) (zs : List ℕ) → n ≡ transactionsIn (contents c) → zs ≡ writtenTable (historyIn c) (c .starting) (take n (c .order)) ys → zs ≡ writtenTable (historyIn c) (c .starting) (orderIn c) ys
+    table-written n zs p e = e ∙ ap (λ k. writtenTable (historyIn c) (c .starting) (take k (c .order)) ys) p

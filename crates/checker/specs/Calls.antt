@@ -4,7 +4,7 @@ use mathlib.Core.Bool.{Bool, cond, _&&_}
 use mathlib.Core.List.{List}
 use lib.Dec.{eqb}
 use Rattle.model.specs.History.{size, legal}
-use Rattle.model.specs.Log.{loadNumber}
+use Rattle.model.specs.Window.{Window, windowNumber}
 use Rattle.checker.specs.declared.Case.{Case}
 use Rattle.checker.specs.declared.Answer.{Answer}
 use Rattle.checker.specs.declared.Checking.{Checking}
@@ -12,16 +12,16 @@ use Rattle.checker.specs.Cases.{historyIn, stageOf, loadedCase}
 use Rattle.answers.specs.Stages.{isFresh, orderRefusal}
 use Rattle.answers.specs.Numbers.{replyOf, judgementOf}
 
--- Load tests 21, a case not fresh, then what `loadNumber` tests, in turn.
-unfoldable pub loadRefusal : Case → List ℕ → ℕ
-loadRefusal c b = cond (isFresh (stageOf c)) (loadNumber b) 21
+-- Load tests 21, a case not fresh, then what `windowNumber` tests, in turn: 36, then the log.
+unfoldable pub loadRefusal : Case → Window → ℕ
+loadRefusal c w = cond (isFresh (stageOf c)) (windowNumber w) 21
 
 -- the case after Load: a refusal leaves it as it was
-unfoldable pub caseAfterLoad : Case → List ℕ → Case
-caseAfterLoad c b = cond (eqb (loadRefusal c b) 0) (loadedCase b) c
+unfoldable pub caseAfterLoad : Case → Window → Case
+caseAfterLoad c w = cond (eqb (loadRefusal c w) 0) (loadedCase w) c
 
-unfoldable pub loading : Case → List ℕ → Answer
-loading c b = record { case = caseAfterLoad c b; reply = replyOf (loadRefusal c b) }
+unfoldable pub loading : Case → Window → Answer
+loading c w = record { case = caseAfterLoad c w; reply = replyOf (loadRefusal c w) }
 
 -- Check tests 22, a fresh case, then 13.
 unfoldable pub checkRefusal : Case → List ℕ → ℕ

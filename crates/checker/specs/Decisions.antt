@@ -34,7 +34,7 @@ abbrev pub stageFor : Option (List ℕ) → Stage
 stageFor none = NoOrder
 stageFor (some o) = Ordered
 
--- the case with an answer stored: its log as it was, the order as 32 numbers
+-- the case with an answer stored: its window as it was, the order as 32 numbers
 unfoldable pub decidedCase : Case → Option (List ℕ) → Case
 decidedCase c answer = answeredCase c (stageFor answer) (orderNumbers answer)
 

@@ -1,5 +1,5 @@
 -- Demand 3 in one piece, over what the calls give and leave: what Encode's two lists hold, what Decide answers in every setting and again, and
--- what Order and Table then write; from the log's bytes on. `demand-3` in proofs/Demands.antt proves it. Assumes nothing.
+-- what Order and Table then write; from the log's bytes and the starting table on. `demand-3` in proofs/Demands.antt proves it. Assumes nothing.
 use Prim.Native.Nat.{ℕ}
 use mathlib.Core.Path.{_≡_}
 use mathlib.Core.Logic.{_⊎_, _↔_}
@@ -7,15 +7,15 @@ use mathlib.Core.List.{List, _++_}
 use lib.Dec.{T}
 use lib.ListN.{length, take, drop}
 use Rattle.model.specs.declared.Constraint.{Constraint}
-use Rattle.model.specs.History.{History, size, legal, finalTable}
-use Rattle.model.specs.Log.{historyOf}
+use Rattle.model.specs.History.{History, size, legal, replay, everyReadSeesTheValueItNames}
+use Rattle.model.specs.Window.{Window, windowHistory}
 use Rattle.model.specs.Polygraph.{Polygraph, polygraph, AcyclicSelection}
 use Rattle.model.specs.Search.{LexLess}
 use Rattle.answers.specs.declared.Stage.the-variants.{Loaded, Ordered, NoOrder}
 use Rattle.answers.specs.declared.Verdict.the-variants.{Order, NoOrder as NoOrderSaid}
 use Rattle.checker.specs.declared.Case.{Case}
 use Rattle.checker.specs.declared.Decision.{Decision}
-use Rattle.checker.specs.Cases.{historyIn, stageOf}
+use Rattle.checker.specs.Cases.{windowIn, historyIn, stageOf}
 use Rattle.checker.specs.Calls.{loadRefusal, caseAfterLoad}
 use Rattle.checker.specs.Encodings.{encodeRefusal, encodeAnswer, encodeList, encodeRows}
 use Rattle.checker.specs.Decisions.{decideRefusal, deciding, listAfterDecide}
@@ -38,17 +38,19 @@ Serializable h = (o : List ℕ) × T (legal h o)
 abbrev pub IsFirst : History → List ℕ → Type 0
 IsFirst h o = T (legal h o) × ((p : List ℕ) → T (legal h p) → (p ≡ o) ⊎ LexLess o p)
 
--- A decision d answers the history h: it says 'no order' exactly where no legal order exists, and an order exactly where one does; the order's T
+-- A decision d answers the window w: of its history it says 'no order' exactly where no legal order exists, and an order exactly where one does; the order's T
 -- numbers are then the first legal order. Its case counts as decided so, and Order and Table of that case, where they aren't refused, write
--- this order and the table which its replay leaves.
-pub record Settles (h : History) (d : Decision) : Type 0 where
-  pub none : (d .verdict ≡ NoOrderSaid) ↔ (Serializable h → ⊥)
-  pub some : (d .verdict ≡ Order) ↔ Serializable h
-  pub first : d .verdict ≡ Order → IsFirst h (take (size h) (d .order))
+-- this order and the table which its replay leaves, from the window's starting table.
+pub record Settles (w : Window) (d : Decision) : Type 0 where
+  pub none : (d .verdict ≡ NoOrderSaid) ↔ (Serializable (windowHistory w) → ⊥)
+  pub some : (d .verdict ≡ Order) ↔ Serializable (windowHistory w)
+  pub first : d .verdict ≡ Order → IsFirst (windowHistory w) (take (size (windowHistory w)) (d .order))
   pub none-stage : d .verdict ≡ NoOrderSaid → stageOf (d .case) ≡ NoOrder
   pub some-stage : d .verdict ≡ Order → stageOf (d .case) ≡ Ordered
-  pub order : (out : List ℕ) → orderRefused (d .case) (length out) ≡ 0 → orderLeft (d .case) out ≡ take (size h) (d .order) ++ drop (size h) out
-  pub table : (out : List ℕ) → tableRefused (d .case) (length out) ≡ 0 → tableLeft (d .case) out ≡ finalTable h (take (size h) (d .order)) ++ drop 32 out
+  pub order : (out : List ℕ) → orderRefused (d .case) (length out) ≡ 0
+      → orderLeft (d .case) out ≡ take (size (windowHistory w)) (d .order) ++ drop (size (windowHistory w)) out
+  pub table : (out : List ℕ) → tableRefused (d .case) (length out) ≡ 0
+      → tableLeft (d .case) out ≡ replay (windowHistory w) (w .starting) (take (size (windowHistory w)) (d .order)) ++ drop 32 out
 
 -- a second decision gives what the first gave: verdict, order and case
 pub record SameAnswer (d d′ : Decision) : Type 0 where
@@ -61,24 +63,27 @@ pub record Whole (c : Case) (e pruning : ℕ) (ys : List Constraint) (ws : List 
   -- what Encode leaves in the two lists is the polygraph, and has an acyclic selection exactly when a legal order exists
   pub handed-out : encodeRefusal c e pruning (length ys) (length ws) ≡ 0 → handedOut c e pruning ys ws ≡ polygraph (historyIn c) e pruning
   pub selection : encodeRefusal c e pruning (length ys) (length ws) ≡ 0 → Serializable (historyIn c) ↔ AcyclicSelection (handedOut c e pruning ys ws)
-  -- Decide leaves the same constraints, with their count, and answers the history
+  -- Decide leaves the same constraints, with their count, and answers the window
   pub listed : decideRefusal c e pruning (length ys) ≡ 0
       → take (deciding c e pruning (length ys) .left) (listAfterDecide c e pruning ys) ≡ polygraph (historyIn c) e pruning .choices
-  pub settles : decideRefusal c e pruning (length ys) ≡ 0 → Settles (historyIn c) (deciding c e pruning (length ys))
-  -- the case that it gives back holds the same history, of which all of this can be said again; a second Decide of it, in any setting and on any list,
-  -- answers that history in the same way
+  pub settles : decideRefusal c e pruning (length ys) ≡ 0 → Settles (windowIn c) (deciding c e pruning (length ys))
+  -- the case that it gives back holds the same window, of which all of this can be said again; a second Decide of it, in any setting and on any list,
+  -- answers that window in the same way
   pub again : decideRefusal c e pruning (length ys) ≡ 0 → let d = deciding c e pruning (length ys) in
       (e′ pruning′ places : ℕ) → decideRefusal (d .case) e′ pruning′ places ≡ 0 → let d′ = deciding (d .case) e′ pruning′ places in
-      (historyIn (d .case) ≡ historyIn c) × Settles (historyIn c) d′ × SameAnswer d d′
+      (windowIn (d .case) ≡ windowIn c) × Settles (windowIn c) d′ × SameAnswer d d′
 
--- From bytes to bytes: after Load, where it isn't refused, the case counts as loaded and holds the history of the log's bytes; so what Decide, Order
--- and Table then give and write is said of these bytes.
-pub record FromBytes (c : Case) (b : List ℕ) : Type 0 where
-  pub loaded : stageOf (caseAfterLoad c b) ≡ Loaded
-  pub holds : historyIn (caseAfterLoad c b) ≡ historyOf b
-  pub settles : (e pruning places : ℕ) → decideRefusal (caseAfterLoad c b) e pruning places ≡ 0 → Settles (historyOf b) (deciding (caseAfterLoad c b) e pruning places)
+-- From bytes to bytes: after Load, where it isn't refused, the case counts as loaded and holds the window that Load took, the log's bytes and the
+-- starting table; so what Decide, Order and Table then give and write is said of these.
+pub record FromBytes (c : Case) (w : Window) : Type 0 where
+  pub loaded : stageOf (caseAfterLoad c w) ≡ Loaded
+  pub holds : windowIn (caseAfterLoad c w) ≡ w
+  pub settles : (e pruning places : ℕ) → decideRefusal (caseAfterLoad c w) e pruning places ≡ 0 → Settles w (deciding (caseAfterLoad c w) e pruning places)
+  -- in the replay of the order, from the starting table, every read sees the value that it names
+  pub values : (e pruning places : ℕ) → decideRefusal (caseAfterLoad c w) e pruning places ≡ 0 → let d = deciding (caseAfterLoad c w) e pruning places in
+      d .verdict ≡ Order → T (everyReadSeesTheValueItNames (windowHistory w) (w .starting) (take (size (windowHistory w)) (d .order)))
 
 -- Demand 3.
 pub record Demand3 : Type 0 where
   pub whole : (c : Case) (e pruning : ℕ) (ys : List Constraint) (ws : List ℕ) → Whole c e pruning ys ws
-  pub bytes : (c : Case) (b : List ℕ) → loadRefusal c b ≡ 0 → FromBytes c b
+  pub bytes : (c : Case) (w : Window) → loadRefusal c w ≡ 0 → FromBytes c w

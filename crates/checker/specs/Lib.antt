@@ -5,3 +5,4 @@ pub mod Encodings
 pub mod Decisions
 pub mod Preparing
 pub mod Demand
+pub mod Starting

@@ -28,4 +28,4 @@ unfoldable pub orderLeft : Case → List ℕ → List ℕ
 orderLeft c ys = cond (eqb (orderRefused c (length ys)) 0) (writtenOrder (transactionsIn (contents c)) (c .order) ys) ys
 
 unfoldable pub tableLeft : Case → List ℕ → List ℕ
-tableLeft c ys = cond (eqb (tableRefused c (length ys)) 0) (writtenTable (historyIn c) (orderIn c) ys) ys
+tableLeft c ys = cond (eqb (tableRefused c (length ys)) 0) (writtenTable (historyIn c) (c .starting) (orderIn c) ys) ys

@@ -92,10 +92,12 @@ pub(crate) fn stored(c: Case, number: u8, found: bool, order: [u8; 32]) -> Case
         return c;
     }
     let bytes = c.bytes;
+    let starting = c.starting;
     Case {
         stage: stage_by(found),
         bytes,
         length: c.length,
+        starting,
         order,
     }
 }

@@ -1,14 +1,15 @@
-// What a case holds: its log, its order and the stage that it counts as, and the case that holds a given log.
+// What a case holds: its window, its order and the stage that it counts as, and the case that holds a given window.
 ghost use mathlib.Core.Path.{_≡_};
 ghost use Prim.Native.Nat.{_≤_};
 ghost use lib.ListN as ListN;
-ghost use Rattle.model.specs.Log.{loadNumber};
+ghost use Rattle.model.specs.Window.{window, windowNumber};
 ghost use Rattle.checker.specs.Cases.{stageOf, inRoom, loadedCase};
 ghost use Rattle.answers.specs.Stages.{isFresh};
 ghost use Rattle.checker.specs.Calls.{loadRefusal};
 use crate::Case;
 use crate::Stage;
 use answers::copies::copy_bytes;
+use answers::copies::copy_values;
 use answers::stages::counted_as;
 use answers::stages::is_fresh_stage;
 
@@ -31,11 +32,15 @@ pub(crate) fn is_fresh(c: Case) -> bool
     is_fresh_stage(stage)
 }
 
-// The number with which Load refuses, or 0: 21, then Load's number of the log.
-pub(crate) fn load_refusal(c: Case, log: &[u8]) -> u8
-    ensures { λ r. ⌜ r ≡ loadRefusal c (now (log .entry)) ⌝ }
+// The number with which Load refuses, or 0: 21, then Load's number of the window.
+pub(crate) fn load_refusal(c: Case, log: &[u8], starting: &[u16]) -> u8
+    ensures { λ r. ⌜ r ≡ loadRefusal c (window (now (log .entry)) (now (starting .entry))) ⌝ }
 {
-    if is_fresh(c) { log::number(log) } else { 21 }
+    if is_fresh(c) {
+        answers::windows::number(log, starting)
+    } else {
+        21
+    }
 }
 
 // The bytes, with zeros behind them up to the room of a case.
@@ -48,17 +53,29 @@ fn in_room(log: &[u8]) -> [u8; 1156]
     bytes
 }
 
-// The case that holds a log which Load takes.
-pub(crate) fn loaded(log: &[u8]) -> Case
-    requires { ⌜ loadNumber (now log) ≡ 0 ⌝ }
-    ensures { λ r. ⌜ r ≡ loadedCase (now (log .entry)) ⌝ }
+// The 32 values of a starting table.
+fn values_of(starting: &[u16]) -> [u16; 32]
+    requires { ⌜ ListN.length (now starting) ≡ 32 ⌝ }
+    ensures { λ r. ⌜ r ≡ now (starting .entry) ⌝ }
+{
+    let mut values = [0u16; 32];
+    copy_values(starting, 32, &mut values);
+    values
+}
+
+// The case that holds a window which Load takes.
+pub(crate) fn loaded(log: &[u8], starting: &[u16]) -> Case
+    requires { ⌜ windowNumber (window (now log) (now starting)) ≡ 0 ⌝ }
+    ensures { λ r. ⌜ r ≡ loadedCase (window (now (log .entry)) (now (starting .entry))) ⌝ }
 {
     let bytes = in_room(log);
     let length = log.len();
+    let values = values_of(starting);
     Case {
         stage: Stage::Loaded,
         bytes,
         length,
+        starting: values,
         order: [0; 32],
     }
 }

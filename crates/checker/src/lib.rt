@@ -1,6 +1,7 @@
 // The case and the calls. A case goes into each call by value and comes back from it in the answer.
 // Anyone may put a case together, so each call first finds the stage that it counts as (`held::stage_of`); no call requires anything.
 ghost use mathlib.Core.Path.{_≡_};
+ghost use Rattle.model.specs.Window.{window};
 ghost use Rattle.checker.specs.Cases.{freshCase};
 ghost use lib.ListN.{length};
 ghost use Rattle.checker.specs.Calls.{loading, loadRefusal, checking, checkRefusal, checkYes};
@@ -21,10 +22,12 @@ mod plans;
 mod polygraphs;
 mod results;
 
+// The stage that it says, the log in its room, the table that the window starts from, and the order.
 pub struct Case {
     pub stage: Stage,
     pub bytes: [u8; 1156],
     pub length: usize,
+    pub starting: [u16; 32],
     pub order: [u8; 32],
 }
 
@@ -63,23 +66,24 @@ impl Case {
             stage: Stage::Fresh,
             bytes: [0; 1156],
             length: 0,
+            starting: [0; 32],
             order: [0; 32],
         }
     }
 
-    // Reads a log into a fresh case.
-    pub fn load(mut self, log: &[u8]) -> Answer
-        ensures result { λ r. ⌜ r ≡ loading self (now (log .entry)) ⌝ }
-        ensures number { λ r. ⌜ numberOf (r .reply) ≡ loadRefusal self (now (log .entry)) ⌝ }
+    // Reads a log, and the table that it starts from, into a fresh case.
+    pub fn load(mut self, log: &[u8], starting: &[u16]) -> Answer
+        ensures result { λ r. ⌜ r ≡ loading self (window (now (log .entry)) (now (starting .entry))) ⌝ }
+        ensures number { λ r. ⌜ numberOf (r .reply) ≡ loadRefusal self (window (now (log .entry)) (now (starting .entry))) ⌝ }
     {
-        let number = held::load_refusal(self, log);
+        let number = held::load_refusal(self, log, starting);
         if number != 0 {
             return Answer {
                 case: self,
                 reply: Reply::Refused(number),
             };
         }
-        let loaded = held::loaded(log);
+        let loaded = held::loaded(log, starting);
         self = loaded;
         Answer {
             case: self,
@@ -140,7 +144,7 @@ impl Case {
         }
     }
 
-    // Writes the table that the order leaves: 32 values, by key.
+    // Writes the table that the order leaves, from the starting one: 32 values, by key.
     pub fn table(self, out: &mut [u16]) -> Answer
         ensures result { λ r. ⌜ r ≡ replying self (tableRefused self (length (now (out .entry)))) ⌝ }
         ensures number { λ r. ⌜ numberOf (r .reply) ≡ tableRefused self (length (now (out .entry))) ⌝ }

@@ -46,11 +46,12 @@ pub(crate) fn write_order(c: Case, out: &mut [u8])
 // The table of a case that is decided with an order.
 pub(crate) fn write_table(c: Case, out: &mut [u16])
     requires { ⌜ tableRefused c (length (now out)) ≡ 0 ⌝ }
-    ensures { λ _. ⌜ now (out .exit) ≡ writtenTable (historyIn c) (orderIn c) (now (out .entry)) ⌝ }
+    ensures { λ _. ⌜ now (out .exit) ≡ writtenTable (historyIn c) (c .starting) (orderIn c) (now (out .entry)) ⌝ }
 {
     let bytes = c.bytes;
     let length = c.length;
+    let starting = c.starting;
     let order = c.order;
     let n = log::transactions(&bytes[..length]);
-    answers::results::write_table(&bytes[..length], &order[..n], out);
+    answers::results::write_table(&bytes[..length], starting, &order[..n], out);
 }

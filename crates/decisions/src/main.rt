@@ -1,5 +1,6 @@
 // Decide, Order and Table of many small random histories, in the six settings, against a search through all permutations and a direct replay: up to 6
-// transactions over 1 to 3 keys, with good, bad and starting reads, read-backs, shared cabinets, blind writes, read-modify-write chains and rings.
+// transactions over 1 to 3 keys, with good, bad and starting reads, read-backs, shared cabinets, blind writes, read-modify-write chains and rings. Each
+// starts from a random table, and is decided as it is from zeros.
 use checker::Case;
 use checker::Decision;
 use checker::Stage;
@@ -11,17 +12,22 @@ use samples::lines::number;
 use samples::lines::text;
 use samples::lines::yes_no;
 use samples::loaded;
+use samples::loaded_from;
 use samples::same_case;
+use samples::tables::drawn;
+use samples::tables::same;
 
 mod results;
 
 // How many histories there are of each kind.
 const COUNT: u64 = 1000;
 
-// The histories with a read-back; those with an order and without; decisions, each with Order and Table of its case; refusals of Order and Table; decisions
-// on a list that another was made on.
+// The histories with a read-back; those that start from zeros, and from the highest value everywhere; those with an order and without; decisions, each with
+// Order and Table of its case; refusals of Order and Table; decisions on a list that another was made on; decisions from zeros and from the history's table.
 pub struct Tally {
     pub backs: u64,
+    pub lowest: u64,
+    pub highest: u64,
     pub orders: u64,
     pub without: u64,
     pub decided: u64,
@@ -30,6 +36,8 @@ pub struct Tally {
     pub otherwise: u64,
     pub again: u64,
     pub changed: u64,
+    pub twice: u64,
+    pub apart: u64,
 }
 
 // ---- what is expected
@@ -45,17 +53,18 @@ fn shown(found: bool, order: [u8; 32], size: usize) -> [u8; 32] {
     out
 }
 
-fn expected(s: trial::Sample, log: &[u8]) -> Expected {
+fn expected(s: trial::Sample, log: &[u8], starting: [u16; 32]) -> Expected {
     let first = trial::orders::first(s);
     let found = first.found;
     let size = s.size as usize;
     let theirs = first.order;
     let order = shown(found, theirs, size);
     Expected {
+        starting,
         found,
         size,
         order,
-        table: direct::tables::table(log, order, size),
+        table: direct::tables::table(log, starting, order, size),
     }
 }
 
@@ -63,12 +72,14 @@ fn expected(s: trial::Sample, log: &[u8]) -> Expected {
 fn stored(c: Case, x: Expected) -> Case {
     let bytes = c.bytes;
     let length = c.length;
+    let starting = c.starting;
     let order = x.order;
     if x.found {
         return Case {
             stage: Stage::Ordered,
             bytes,
             length,
+            starting,
             order,
         };
     }
@@ -76,8 +87,15 @@ fn stored(c: Case, x: Expected) -> Case {
         stage: Stage::NoOrder,
         bytes,
         length,
+        starting,
         order,
     }
+}
+
+// The case that holds a log beside the table that it starts from.
+fn held(log: &[u8], x: Expected) -> Case {
+    let starting = x.starting;
+    loaded_from(log, &starting)
 }
 
 // ---- decisions
@@ -151,7 +169,7 @@ fn again_agrees(first: &[u8], s: u8, second: &[u8], r: u8, x: Expected) -> bool 
     let mut list = [77u32; 16384];
     let one = direct::encoded(first, s / 2 % 3, s % 2, &mut list);
     let two = direct::encoded(second, r / 2 % 3, r % 2, &mut list);
-    let c = loaded(second);
+    let c = held(second, x);
     let mut out = [0u32; 16384];
     let d = lists::decide_again(
         loaded(first),
@@ -167,6 +185,35 @@ fn again_agrees(first: &[u8], s: u8, second: &[u8], r: u8, x: Expected) -> bool 
     agrees(d, c, x, two.left) && lists::same_words(&out, &list, 16384)
 }
 
+// Whether two decisions are the same, and leave cases that differ in nothing but the table.
+fn same_decision(a: Decision, b: Decision) -> bool {
+    let v = a.verdict;
+    let w = b.verdict;
+    let o = a.order;
+    let p = b.order;
+    let mut after = a.case;
+    let other = b.case;
+    let starting = other.starting;
+    after.starting = starting;
+    verdict_number(v) == verdict_number(w)
+        && check::same(&o, &p)
+        && a.left == b.left
+        && same_case(after, other)
+}
+
+// Whether Decide says the same of two cases in a setting, and leaves the same list. It is called on a fresh case first, which it refuses and writes nothing
+// for.
+fn alike(a: Case, b: Case, s: u8) -> bool {
+    let e = s / 2 % 3;
+    let p = s % 2;
+    let mark = lists::marked(88);
+    let mut first = [0u32; 16384];
+    let mut second = [0u32; 16384];
+    let c = lists::decide_again(Case::fresh(), 0, 0, a, e, p, 4096, mark, &mut first);
+    let d = lists::decide_again(Case::fresh(), 0, 0, b, e, p, 4096, mark, &mut second);
+    same_decision(c, d) && lists::same_words(&first, &second, 16384)
+}
+
 // ---- the histories
 
 fn more(n: u64, yes: bool) -> u64 {
@@ -176,7 +223,7 @@ fn more(n: u64, yes: bool) -> u64 {
 // The six settings of a log.
 fn with_settings(t: Tally, log: &[u8], x: Expected) -> Tally {
     let mut out = t;
-    let c = loaded(log);
+    let c = held(log, x);
     for s in 0..6u8 {
         let yes = setting_agrees(c, log, x, s / 2, s % 2);
         let next = with_decision(out, yes);
@@ -194,7 +241,7 @@ fn with_decision(t: Tally, yes: bool) -> Tally {
 
 // Order and Table where the state or a list is not as it must be.
 fn with_refusals(t: Tally, log: &[u8], x: Expected) -> Tally {
-    let c = loaded(log);
+    let c = held(log, x);
     let early = results::refuse(c, x, 23) && results::refuse(Case::fresh(), x, 23);
     let late = results::refuse_decided(stored(c, x), x);
     let mut out = t;
@@ -224,13 +271,25 @@ fn with_again(
     out
 }
 
+// A log from zeros and from its table, in a setting.
+fn with_table(t: Tally, log: &[u8], x: Expected, seed: u64) -> Tally {
+    let starting = x.starting;
+    let yes = alike(loaded(log), held(log, x), (seed / 36 % 6) as u8);
+    let mut out = t;
+    out.lowest = more(t.lowest, same(starting, [0; 32]));
+    out.highest = more(t.highest, same(starting, [65535; 32]));
+    out.twice = more(t.twice, true);
+    out.apart = more(t.apart, !yes);
+    out
+}
+
 // A log, which is the first `length` bytes, of a sample.
 fn with_log(t: Tally, bytes: &[u8], length: usize, s: trial::Sample, kind: u8, seed: u64) -> Tally {
     if length > bytes.len() {
         return t;
     }
     let log = &bytes[0..length];
-    let x = expected(s, log);
+    let x = expected(s, log, drawn(seed % 1000000 * 5 + kind as u64));
     let mut out = with_settings(t, log, x);
     out.backs = more(t.backs, direct::reads_back(log));
     out.orders = more(t.orders, x.found);
@@ -238,13 +297,16 @@ fn with_log(t: Tally, bytes: &[u8], length: usize, s: trial::Sample, kind: u8, s
     let refused = with_refusals(out, log, x);
     let other = trial::log::of(trial::small(kind, seed % 1000000 + 1000000));
     let before = other.bytes;
-    with_again(refused, &before, other.length, log, x, seed)
+    let again = with_again(refused, &before, other.length, log, x, seed);
+    with_table(again, log, x, seed)
 }
 
 // The histories of a kind.
 fn row(kind: u8) -> Tally {
     let mut t = Tally {
         backs: 0,
+        lowest: 0,
+        highest: 0,
         orders: 0,
         without: 0,
         decided: 0,
@@ -253,6 +315,8 @@ fn row(kind: u8) -> Tally {
         otherwise: 0,
         again: 0,
         changed: 0,
+        twice: 0,
+        apart: 0,
     };
     for seed in 0..COUNT {
         let s = trial::small(kind, seed);
@@ -269,6 +333,10 @@ fn print(name: &[u8], kind: u8) {
     text(name);
     text(b": with read-backs");
     number(t.backs);
+    text(b", tables all 0");
+    number(t.lowest);
+    text(b", all 65535");
+    number(t.highest);
     text(b"; order");
     number(t.orders);
     text(b", no order");
@@ -285,6 +353,10 @@ fn print(name: &[u8], kind: u8) {
     number(t.again);
     text(b", different");
     number(t.changed);
+    text(b"; from zeros and from its table");
+    number(t.twice);
+    text(b", different");
+    number(t.apart);
     end();
 }
 

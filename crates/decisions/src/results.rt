@@ -4,9 +4,10 @@ use checker::Case;
 use checker::Reply;
 use samples::same_case;
 
-// Whether a history of `size` transactions has a legal order; the first one, with zeros behind it or, where there is none, 32 zeros; and the table that
-// its replay leaves.
+// The table that a history of `size` transactions starts from; whether it has a legal order; the first one, with zeros behind it or, where there is none,
+// 32 zeros; and the table that its replay leaves.
 pub struct Expected {
+    pub starting: [u16; 32],
     pub found: bool,
     pub size: usize,
     pub order: [u8; 32],

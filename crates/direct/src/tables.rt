@@ -1,4 +1,4 @@
-// The table that an order leaves, by a replay on the log's bytes. Reads, before a write or behind it, change nothing.
+// The table that an order leaves of a starting one, by a replay on the log's bytes. Reads, before a write or behind it, change nothing.
 use crate::body;
 use crate::byte;
 use crate::operations;
@@ -28,9 +28,9 @@ fn after_transaction(table: [u16; 32], log: &[u8], t: usize) -> [u16; 32] {
     out
 }
 
-// The table after the first n transactions of the order.
-pub fn table(log: &[u8], order: [u8; 32], n: usize) -> [u16; 32] {
-    let mut out = [0u16; 32];
+// The starting table after the first n transactions of the order.
+pub fn table(log: &[u8], starting: [u16; 32], order: [u8; 32], n: usize) -> [u16; 32] {
+    let mut out = starting;
     for p in 0..32usize {
         if p < n {
             let next = after_transaction(out, log, order[p] as usize);

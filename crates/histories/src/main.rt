@@ -1,14 +1,18 @@
 // Document 01's histories A to J, histories with read-backs and the program's example, through the calls: what Load says, what Decide says and in how many
-// of the six settings, and how many constraints Encode gives in encodings 0, 1 and 2, before pruning and after it. Then what Judge prints for each kind of
-// answer.
+// of the six settings, and how many constraints Encode gives in encodings 0, 1 and 2, before pruning and after it; then what Table gives of each from
+// levels that are not zeros. Then what Judge prints for each kind of answer.
 use checker::Case;
 use checker::Decision;
 use checker::Verdict;
 use samples::lines::end;
 use samples::lines::number;
 use samples::lines::text;
+use samples::lines::value;
+use samples::lines::yes_no;
 use samples::load_number;
 use samples::loaded;
+use samples::loaded_from;
+use samples::tables::levels;
 
 // ---- the calls
 
@@ -82,7 +86,7 @@ fn print_refusal(n: u8) {
     number(n as u64);
 }
 
-// The line of a history of n transactions.
+// The lines of a history of n transactions.
 fn show(name: &[u8], log: &[u8], n: usize) {
     text(name);
     text(b": load");
@@ -100,6 +104,7 @@ fn show(name: &[u8], log: &[u8], n: usize) {
     number(left(log, 1, 1));
     number(left(log, 2, 1));
     end();
+    show_levels(name, log);
 }
 
 // The members of a set.
@@ -146,6 +151,45 @@ fn show_polygraph(name: &[u8], log: &[u8], encoding: u8) {
         print_side(b", B", out[2], out[3]);
     }
     print_rows(rows);
+}
+
+// ---- starting from levels
+
+// What Decide says from the levels.
+fn decided_from_levels(log: &[u8]) -> Decision {
+    let starting = levels();
+    lender::decide(loaded_from(log, &starting), 2, 1)
+}
+
+// Whether all keys but 0 and 1, which alone are written, have their levels.
+fn kept(table: [u16; 32]) -> bool {
+    let starting = levels();
+    let mut rest = table;
+    rest[0] = starting[0];
+    rest[1] = starting[1];
+    samples::tables::same(rest, starting)
+}
+
+// The line of what Table gives then: the values of keys 0 and 1, whose levels are 65535 and 1001, and whether the others have theirs.
+fn show_levels(name: &[u8], log: &[u8]) {
+    let d = decided_from_levels(log);
+    let c = d.case;
+    let mut out = [9u16; 32];
+    let a = c.table(&mut out);
+    let r = a.reply;
+    text(name);
+    text(b" from levels: decided as from zeros");
+    yes_no(same(d, decided(log, 5)));
+    text(b"; table");
+    number(r.number() as u64);
+    if r.number() == 0 {
+        text(b", keys 0 and 1:");
+        value(out[0]);
+        value(out[1]);
+        text(b", the others as they were");
+        yes_no(kept(out));
+    }
+    end();
 }
 
 // ---- the histories

@@ -1,4 +1,4 @@
--- What is found over the bytes of a log is what Decide gives of the case that holds it, and what is written of an order is what Order and Table write.
+-- What is found over the bytes of a log is what Decide gives of the case that holds its window, and what is written of an order is what Order and Table write.
 -- Assumes nothing.
 use mathlib.Core.Path.{_≡_, refl, sym, ap, ap₂, subst, _∙_}
 use mathlib.Core.Logic.{_≢_}
@@ -10,7 +10,8 @@ use mathlib.Core.Option.{Option, none, some}
 use lib.Dec.{T, ltb}
 use lib.ListN.{length, take, replicate}
 use borrow.Author.Tests.{lt-ltb, le-ltb}
-use Rattle.model.specs.History.{History, size, legal, isOrder, finalTable}
+use Rattle.model.specs.History.{History, size, legal, isOrder, replay}
+use Rattle.model.specs.Window.{Window}
 use Rattle.model.specs.Log.{loadNumber, transactionsIn, historyOf}
 use Rattle.model.specs.Lent.{orderNumbers, writtenOrder, writtenTable, encodedCount}
 use Rattle.model.specs.Search.{firstLegal}
@@ -38,19 +39,22 @@ use Rattle.host.specs.Codes.{orderedCase, foundDecision, saidCode, saidO
 use Rattle.host.specs.Images.{filled, valueIn}
 use Rattle.host.proofs.Writing.{Written, order-short, both-written}
 
-module _ (log : List ℕ) (loads : loadNumber log ≡ 0) where
-  held : isFresh (stageOf (loadedCase log)) ≡ false
-  held = ap isFresh (load-stage log loads)
+module _ (w : Window) (loads : loadNumber (w .bytes) ≡ 0) where
+  abbrev log : List ℕ
+  log = w .bytes
+
+  held : isFresh (stageOf (loadedCase w)) ≡ false
+  held = ap isFresh (load-stage w loads)
 
   -- ---- what is found
 
   module _ (e pruning places : ℕ) (listed : Bool) (t ks : List ℕ) (r : Outcome)
       (finds : Finds (polygraphRefusal (historyOf log) e pruning places 32) (historyOf log) e pruning places listed t ks r) where
-    pub as-decided : foundDecision log r (encodedCount (historyIn (loadedCase log)) e pruning) ≡ deciding (loadedCase log) e pruning places
+    pub as-decided : foundDecision w r (encodedCount (historyIn (loadedCase w)) e pruning) ≡ deciding (loadedCase w) e pruning places
     as-decided =
-        found-decision (loadedCase log) e pruning places listed t ks r
-        (held-finds (loadedCase log) e pruning places listed t ks r held
-        (subst (λ b. Finds (polygraphRefusal (historyOf b) e pruning places 32) (historyOf b) e pruning places listed t ks r) (sym (load-holds log)) finds))
+        found-decision (loadedCase w) e pruning places listed t ks r
+        (held-finds (loadedCase w) e pruning places listed t ks r held
+        (subst (λ b. Finds (polygraphRefusal (historyOf b) e pruning places 32) (historyOf b) e pruning places listed t ks r) (sym (load-holds w)) finds))
         _ (λ z. refl)
 
     -- an order that is found has every number below T once
@@ -73,26 +77,26 @@ module _ (log : List ℕ) (loads : loadNumber log ≡ 0) where
 
   module _ (numbers : List ℕ) (orders : T (isOrder (transactionsIn log) (take (transactionsIn log) numbers))) where
     abbrev c : Case
-    c = orderedCase log numbers
+    c = orderedCase w numbers
 
     same-log : contents c ≡ log
     unfolding storing
-    same-log = load-holds log
+    same-log = load-holds w
 
     counts : stageOf c ≡ Ordered
     unfolding stageOf storing counted claimsOrder
     counts =
-        ap₂ (counted Ordered) (true-eq (holdsLog (loadedCase log .bytes) (loadedCase log .length)) (case-holds (loadedCase log) held))
-        (true-eq _ (subst (λ b. T (isOrder (transactionsIn b) (take (transactionsIn b) numbers))) (sym (load-holds log)) orders))
+        ap₂ (counted Ordered) (true-eq (holdsLog (loadedCase w .bytes) (loadedCase w .length)) (case-holds (loadedCase w) held))
+        (true-eq _ (subst (λ b. T (isOrder (transactionsIn b) (take (transactionsIn b) numbers))) (sym (load-holds w)) orders))
 
     number-by : (places : ℕ) → orderRefused c places ≡ cond (ltb places (transactionsIn log)) 25 0
     number-by places = ordered-number c counts places ∙ ap {B = ℕ} (λ b. cond (ltb places (transactionsIn b)) 25 0) same-log
 
-    table-by : tableLeft c (replicate 32 0) ≡ finalTable (historyOf log) (take (transactionsIn log) numbers)
-    unfolding writtenTable storing
+    table-by : tableLeft c (replicate 32 0) ≡ replay (historyOf log) (w .starting) (take (transactionsIn log) numbers)
+    unfolding writtenTable storing loadedCase
     table-by =
-        table-left c counts (replicate 32 0) (omega arith) ∙ append-nil (finalTable (historyIn c) (orderIn c))
-        ∙ ap (λ b. finalTable (historyOf b) (take (transactionsIn b) numbers)) same-log
+        table-left c counts (replicate 32 0) (omega arith) ∙ append-nil (replay (historyIn c) (w .starting) (orderIn c))
+        ∙ ap (λ b. replay (historyOf b) (w .starting) (take (transactionsIn b) numbers)) same-log
 
     module _ (order table : List ℕ) (room : 64 ≤ length table) (n : ℕ) (is : n ≡ transactionsIn log) where
       pub no-room : length order < n → Written c order table 25 order table
@@ -101,14 +105,14 @@ module _ (log : List ℕ) (loads : loadNumber log ≡ 0) where
           (sym (number-by (length order) ∙ ap {B = ℕ} (λ b. cond b 25 0) (lt-ltb (length order) (transactionsIn log) (omega (arith, is)))))
           room (λ z. absurd (omega (arith, z)))
 
-      pub written : (order′ values table′ : List ℕ) → n ≤ length order → order′ ≡ copied n numbers order → values ≡ finalTable (historyOf log) (take n numbers)
+      pub written : (order′ values table′ : List ℕ) → n ≤ length order → order′ ≡ copied n numbers order → values ≡ replay (historyOf log) (w .starting) (take n numbers)
           → table′ ≡ filled (valueIn values) 32 table → Written c order table 0 order′ table′
       unfolding writtenOrder storing
       written order′ values table′ l o v t =
           both-written c order table 0
           (sym (number-by (length order) ∙ ap {B = ℕ} (λ b. cond b 25 0) (le-ltb (length order) (transactionsIn log) (omega (arith, is))))) room order′
           (o ∙ ap (λ m. copied m numbers order) (is ∙ ap transactionsIn (sym same-log)) ∙ sym (order-left c counts order (omega (arith, is, ap transactionsIn same-log)))) table′ refl
-          (t ∙ ap (λ x. filled (valueIn x) 32 table) (v ∙ ap (λ m. finalTable (historyOf log) (take m numbers)) is ∙ sym table-by))
+          (t ∙ ap (λ x. filled (valueIn x) 32 table) (v ∙ ap (λ m. replay (historyOf log) (w .starting) (take m numbers)) is ∙ sym table-by))
 
 -- ---- what is said of it
 
@@ -120,21 +124,21 @@ Said d order table n order′ table′ = (n ≡ saidCode d (length order) (lengt
 pub each : {A B C : ℕ → Type 0} → ((left : ℕ) → A left × (B left × C left)) → ((left : ℕ) → A left) × (((left : ℕ) → B left) × ((left : ℕ) → C left))
 each f = (λ left. f left .0, (λ left. f left .1 .0, λ left. f left .1 .1))
 
-module _ (log : List ℕ) (r : Outcome) (order table : List ℕ) (left : ℕ) where
+module _ (w : Window) (r : Outcome) (order table : List ℕ) (left : ℕ) where
   abbrev kept : Case
-  kept = storing (loadedCase log) (r .number) (r .found) (r .order)
+  kept = storing (loadedCase w) (r .number) (r .found) (r .order)
 
-  pub said-refused : r .number ≢ 0 → Said (foundDecision log r left) order table (r .number) order table
+  pub said-refused : r .number ≢ 0 → Said (foundDecision w r left) order table (r .number) order table
   unfolding refusedDecision
   said-refused f =
       subst (λ (d : Decision). Said d order table (r .number) order table) (answer-refused kept (r .number) (r .found) (r .order) left f) (refl, (refl, refl))
 
-  pub said-none : r .number ≡ 0 → r .found ≡ false → Said (foundDecision log r left) order table 255 order table
+  pub said-none : r .number ≡ 0 → r .found ≡ false → Said (foundDecision w r left) order table 255 order table
   said-none z f =
       subst (λ (d : Decision). Said d order table 255 order table) (answer-found kept (r .number) (r .found) (r .order) left false z f) (refl, (refl, refl))
 
-  pub said-order : (n : ℕ) (order′ table′ : List ℕ) → r .number ≡ 0 → r .found ≡ true → Written (orderedCase log (r .order)) order table n order′ table′
-      → Said (foundDecision log r left) order table n order′ table′
-  said-order n order′ table′ z f w =
+  pub said-order : (n : ℕ) (order′ table′ : List ℕ) → r .number ≡ 0 → r .found ≡ true → Written (orderedCase w (r .order)) order table n order′ table′
+      → Said (foundDecision w r left) order table n order′ table′
+  said-order n order′ table′ z f is =
       subst (λ (d : Decision). Said d order table n order′ table′) (answer-found kept (r .number) (r .found) (r .order) left true z f)
-      (subst (λ (k : Case). Written k order table n order′ table′) (ap₂ {C = Case} (λ (m : ℕ) (b : Bool). storing (loadedCase log) m b (r .order)) (sym z) (sym f)) w)
+      (subst (λ (k : Case). Written k order table n order′ table′) (ap₂ {C = Case} (λ (m : ℕ) (b : Bool). storing (loadedCase w) m b (r .order)) (sym z) (sym f)) is)

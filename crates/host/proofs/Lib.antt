@@ -2,4 +2,5 @@ pub mod Filling
 pub mod Taking
 pub mod Writing
 pub mod Deciding
+pub mod Starting
 pub mod Demands

@@ -1,11 +1,11 @@
--- What each function gives and leaves, of the case that a log is loaded into: 0, 255 or the refusal's number, and what is written where it is 0.
+-- What each function gives and leaves, of the case that a window is loaded into: 0, 255 or the refusal's number, and what is written where it is 0.
 -- The numbers of Load come first, then those of the call. Assumes nothing.
 use Prim.Native.Nat.{ℕ, _+_, _*_}
 use mathlib.Core.Bool.{true, cond}
 use mathlib.Core.List.{List}
 use lib.Dec.{eqb, ltb}
 use lib.ListN.{length, replicate}
-use Rattle.model.specs.Log.{loadNumber}
+use Rattle.model.specs.Window.{Window, window, windowNumber, fromZeros}
 use Rattle.model.specs.Lent.{noConstraint}
 use Rattle.checker.specs.declared.Case.{Case}
 use Rattle.checker.specs.declared.Decision.{Decision}
@@ -22,7 +22,7 @@ use Rattle.checker.specs.Decisions.{deciding}
 use Rattle.checker.specs.Preparing.{storing, foundBy}
 use Rattle.checker.specs.Encodings.{encodeAnswer, encodeList, encodeRows}
 use Rattle.checker.specs.Results.{orderRefused, orderLeft, tableLeft}
-use Rattle.host.specs.Images.{filled, valueIn, polygraphIn}
+use Rattle.host.specs.Images.{filled, valueIn, valuesIn, polygraphIn}
 
 -- 0 legal, 255 not legal, else the refusal's number
 abbrev pub judgementCode : Judgement → ℕ
@@ -42,12 +42,13 @@ whereOrdered Order x y = x
 whereOrdered NoOrder x y = y
 whereOrdered (RefusedVerdict m) x y = y
 
--- what stands where Load takes the log, and else
-abbrev pub whereLoaded : {X : Type 0} → List ℕ → X → X → X
-whereLoaded log x y = cond (eqb (loadNumber log) 0) x y
+-- what stands where Load takes the window, and else
+abbrev pub whereLoaded : {X : Type 0} → Window → X → X → X
+whereLoaded w x y = cond (eqb (windowNumber w) 0) x y
 
+-- Where no table is given, the log starts from 32 zeros.
 unfoldable pub checkCode : List ℕ → List ℕ → ℕ
-checkCode log order = whereLoaded log (judgementCode (checking (loadedCase log) order .judgement)) (loadNumber log)
+checkCode log order = let w = fromZeros log in whereLoaded w (judgementCode (checking (loadedCase w) order .judgement)) (windowNumber w)
 
 -- Of a case that is decided with an order: 25 where the table has fewer than 64 bytes, or the order fewer than T.
 unfoldable pub roomCode : Case → ℕ → ℕ → ℕ
@@ -61,8 +62,8 @@ unfoldable pub tableOf : Case → ℕ → List ℕ → List ℕ
 tableOf c order table = cond (eqb (roomCode c order (length table)) 0) (filled (valueIn (tableLeft c (replicate 32 0))) 32 table) table
 
 -- the decision, on a list that has room for any that is not refused
-abbrev pub decisionOf : List ℕ → ℕ → ℕ → Decision
-decisionOf log e pruning = deciding (loadedCase log) e pruning 4096
+abbrev pub decisionOf : Window → ℕ → ℕ → Decision
+decisionOf w e pruning = deciding (loadedCase w) e pruning 4096
 
 -- the code of a decision, and the two lists after it
 abbrev pub saidCode : Decision → ℕ → ℕ → ℕ
@@ -74,21 +75,42 @@ saidOrder d order table = whereOrdered (d .verdict) (orderOf (d .case) order tab
 abbrev pub saidTable : Decision → ℕ → List ℕ → List ℕ
 saidTable d order table = whereOrdered (d .verdict) (tableOf (d .case) order table) table
 
--- the case that stands for a log with the numbers of an order, and the decision that stands for what is found over a log, with any count of constraints left
-abbrev pub orderedCase : List ℕ → List ℕ → Case
-orderedCase log numbers = storing (loadedCase log) 0 true numbers
+-- the case that stands for a window with the numbers of an order, and the decision that stands for what is found over its log, with any count of constraints left
+abbrev pub orderedCase : Window → List ℕ → Case
+orderedCase w numbers = storing (loadedCase w) 0 true numbers
 
-abbrev pub foundDecision : List ℕ → Outcome → ℕ → Decision
-foundDecision log o left = foundBy (loadedCase log) (o .number) (o .found) (o .order) left
+abbrev pub foundDecision : Window → Outcome → ℕ → Decision
+foundDecision w o left = foundBy (loadedCase w) (o .number) (o .found) (o .order) left
 
-unfoldable pub decideCode : List ℕ → ℕ → ℕ → ℕ → ℕ → ℕ
-decideCode log e pruning order table = whereLoaded log (saidCode (decisionOf log e pruning) order table) (loadNumber log)
+-- of a window
+unfoldable pub windowCode : Window → ℕ → ℕ → ℕ → ℕ → ℕ
+windowCode w e pruning order table = whereLoaded w (saidCode (decisionOf w e pruning) order table) (windowNumber w)
 
-unfoldable pub orderAfter : List ℕ → ℕ → ℕ → List ℕ → ℕ → List ℕ
-orderAfter log e pruning order table = whereLoaded log (saidOrder (decisionOf log e pruning) order table) order
+unfoldable pub windowOrder : Window → ℕ → ℕ → List ℕ → ℕ → List ℕ
+windowOrder w e pruning order table = whereLoaded w (saidOrder (decisionOf w e pruning) order table) order
 
-unfoldable pub tableAfter : List ℕ → ℕ → ℕ → ℕ → List ℕ → List ℕ
-tableAfter log e pruning order table = whereLoaded log (saidTable (decisionOf log e pruning) order table) table
+unfoldable pub windowTable : Window → ℕ → ℕ → ℕ → List ℕ → List ℕ
+windowTable w e pruning order table = whereLoaded w (saidTable (decisionOf w e pruning) order table) table
+
+-- of a log alone: it starts from 32 zeros
+abbrev pub decideCode : List ℕ → ℕ → ℕ → ℕ → ℕ → ℕ
+decideCode log = windowCode (fromZeros log)
+
+abbrev pub orderAfter : List ℕ → ℕ → ℕ → List ℕ → ℕ → List ℕ
+orderAfter log = windowOrder (fromZeros log)
+
+abbrev pub tableAfter : List ℕ → ℕ → ℕ → ℕ → List ℕ → List ℕ
+tableAfter log = windowTable (fromZeros log)
+
+-- of a log and 64 bytes, the 32 values that it starts from; a start of any other length is 36 and nothing
+unfoldable pub decideFromCode : List ℕ → List ℕ → ℕ → ℕ → ℕ → ℕ → ℕ
+decideFromCode log start e pruning order table = cond (eqb (length start) 64) (windowCode (window log (valuesIn start)) e pruning order table) 36
+
+unfoldable pub decideFromOrder : List ℕ → List ℕ → ℕ → ℕ → List ℕ → ℕ → List ℕ
+decideFromOrder log start e pruning order table = cond (eqb (length start) 64) (windowOrder (window log (valuesIn start)) e pruning order table) order
+
+unfoldable pub decideFromTable : List ℕ → List ℕ → ℕ → ℕ → ℕ → List ℕ → List ℕ
+decideFromTable log start e pruning order table = cond (eqb (length start) 64) (windowTable (window log (valuesIn start)) e pruning order table) table
 
 -- Of Encode's answer: 25 where there are fewer bytes than the polygraph takes.
 unfoldable pub polygraphCode : Encoding → ℕ → ℕ
@@ -103,7 +125,7 @@ polygraphAfter c e pruning out =
     out
 
 unfoldable pub encodeCode : List ℕ → ℕ → ℕ → ℕ → ℕ
-encodeCode log e pruning room = whereLoaded log (polygraphCode (encodeAnswer (loadedCase log) e pruning 4096 32) room) (loadNumber log)
+encodeCode log e pruning room = let w = fromZeros log in whereLoaded w (polygraphCode (encodeAnswer (loadedCase w) e pruning 4096 32) room) (windowNumber w)
 
 unfoldable pub encodeAfter : List ℕ → ℕ → ℕ → List ℕ → List ℕ
-encodeAfter log e pruning out = whereLoaded log (polygraphAfter (loadedCase log) e pruning out) out
+encodeAfter log e pruning out = let w = fromZeros log in whereLoaded w (polygraphAfter (loadedCase w) e pruning out) out

@@ -1,11 +1,13 @@
--- What the functions write: numbers as bytes, low byte first, in their places of a list of bytes. Assumes nothing.
+-- What the functions write, and read of a starting table: numbers as bytes, low byte first, in their places of a list of bytes. Assumes nothing.
 --     pairBytes, wordBytes     a number as two bytes, and as four, from a place on
 --     filled step n out        out after n steps
---     valueIn          a value of a table, two bytes
+--     valueIn          a value of a table, two bytes.        valuesIn     the 32 values that 64 bytes hold
 --     polygraphIn      the count left (2 bytes), the 32 row words (4 bytes each), and each constraint left as 10 bytes: A's sources 4, A's target 1, B's sources 4, B's target 1
 use Prim.Native.Nat.{ℕ, zero, suc, _+_, _*_, _/_, _%_}
-use mathlib.Core.List.{List}
+use mathlib.Core.List.{List, map}
 use lib.ListN.{set, getD}
+use Rattle.model.specs.Lists.{upTo}
+use Rattle.model.specs.Log.{pairAt}
 use Rattle.model.specs.declared.Constraint.{Constraint}
 use Rattle.model.specs.Lent.{noConstraint}
 use Rattle.search.specs.Constraints.{conAt}
@@ -22,6 +24,9 @@ filled step (suc n) out = step n (filled step n out)
 
 abbrev pub valueIn : List ℕ → ℕ → List ℕ → List ℕ
 valueIn values i = pairBytes (2 * i) (getD values i 0)
+
+unfoldable pub valuesIn : List ℕ → List ℕ
+valuesIn bytes = map (λ i. pairAt bytes (2 * i)) (upTo 32)
 
 abbrev pub rowIn : List ℕ → ℕ → List ℕ → List ℕ
 rowIn rows i = wordBytes (2 + 4 * i) (getD rows i 0)

@@ -1,8 +1,8 @@
-// Numbers as bytes, low byte first: a table's values, and a polygraph.
+// Numbers as bytes, low byte first: a table's values, written and read, and a polygraph.
 ghost use mathlib.Core.Path.{_≡_};
 ghost use Prim.Native.Nat.{_≤_, _*_, _+_};
 ghost use lib.ListN.{length};
-ghost use Rattle.host.specs.Images.{pairBytes, wordBytes, constraintBytes, filled, valueIn, rowIn, wordsIn};
+ghost use Rattle.host.specs.Images.{pairBytes, wordBytes, constraintBytes, filled, valueIn, valuesIn, rowIn, wordsIn};
 use model::Constraint;
 
 // Two bytes of a number.
@@ -35,6 +35,20 @@ pub(crate) fn put_values(values: &[u16; 32], out: &mut [u8])
         put_pair(values[i], 2 * i, out);
         i += 1;
     }
+}
+
+// The 32 values that 64 bytes hold.
+pub(crate) fn values(bytes: &[u8]) -> [u16; 32]
+    requires { ⌜ length (now bytes) ≡ 64 ⌝ }
+    ensures { λ r. ⌜ r ≡ valuesIn (now (bytes .entry)) ⌝ }
+{
+    let mut out = [0u16; 32];
+    let mut i: usize = 0;
+    while i < 32 {
+        out[i] = log::fields::pair(bytes, 2 * i) as u16;
+        i += 1;
+    }
+    out
 }
 
 // The 32 row words, behind two bytes.

@@ -8,10 +8,11 @@ ghost use lib.Dec.{T};
 ghost use lib.ListN.{length, take};
 ghost use Rattle.model.specs.History.{isOrder};
 ghost use Rattle.model.specs.Log.{loadNumber, transactionsIn};
+ghost use Rattle.model.specs.Window.{window, windowNumber, fromZeros};
 ghost use Rattle.checker.specs.Cases.{loadedCase};
 ghost use Rattle.answers.specs.Numbers.{numberOf};
 ghost use Rattle.checker.specs.Encodings.{encodeAnswer};
-ghost use Rattle.host.specs.Codes.{judgementCode, checkCode, roomCode, orderOf, tableOf, orderedCase, foundDecision, saidCode, saidOrder, saidTable, decideCode, orderAfter, tableAfter, polygraphCode, polygraphAfter, encodeCode, encodeAfter};
+ghost use Rattle.host.specs.Codes.{judgementCode, checkCode, roomCode, orderOf, tableOf, orderedCase, foundDecision, saidCode, saidOrder, saidTable, windowCode, windowOrder, windowTable, decideCode, orderAfter, tableAfter, decideFromCode, decideFromOrder, decideFromTable, polygraphCode, polygraphAfter, encodeCode, encodeAfter};
 use answers::copies::copy_bytes;
 use answers::deciding::Outcome;
 use answers::deciding::decided;
@@ -37,13 +38,14 @@ fn judged(j: Judgement) -> u32
     }
 }
 
-// A log in a fresh case.
+// A log in a fresh case, from 32 zeros.
 fn loaded(log: &[u8]) -> Answer
-    ensures number { λ r. ⌜ numberOf (r .reply) ≡ loadNumber (now (log .entry)) ⌝ }
-    ensures taken { λ r. ⌜ (loadNumber (now (log .entry)) ≡ 0 → r .case ≡ loadedCase (now (log .entry))) ⌝ }
+    ensures number { λ r. ⌜ numberOf (r .reply) ≡ windowNumber (fromZeros (now (log .entry))) ⌝ }
+    ensures taken { λ r. ⌜ (windowNumber (fromZeros (now (log .entry))) ≡ 0 → r .case ≡ loadedCase (fromZeros (now (log .entry)))) ⌝ }
 {
     let c = Case::fresh();
-    c.load(log)
+    let zeros = [0u16; 32];
+    c.load(log, &zeros)
 }
 
 // Whether a proposed order of a log is legal: 0 legal, 255 not legal, else the refusal's number.
@@ -63,12 +65,18 @@ pub extern "C" fn beaconcrumb_check(log: &[u8], order: &[u8]) -> u32
     judged(judgement)
 }
 
-// The order and the table of a log whose order is found, or 25 and nothing.
-fn write(log: &[u8], numbers: [u8; 32], order: &mut [u8], table: &mut [u8]) -> u32
+// The order and the table of a window whose order is found, or 25 and nothing.
+fn write(
+    log: &[u8],
+    starting: [u16; 32],
+    numbers: [u8; 32],
+    order: &mut [u8],
+    table: &mut [u8],
+) -> u32
     requires { ⌜ (loadNumber (now log) ≡ 0) × T (isOrder (transactionsIn (now log)) (take (transactionsIn (now log)) numbers)) ⌝ }
-    ensures result { λ r. ⌜ r ≡ roomCode (orderedCase (now (log .entry)) numbers) (length (now (order .entry))) (length (now (table .entry))) ⌝ }
-    ensures order { λ _. ⌜ now (order .exit) ≡ orderOf (orderedCase (now (log .entry)) numbers) (now (order .entry)) (length (now (table .entry))) ⌝ }
-    ensures table { λ _. ⌜ now (table .exit) ≡ tableOf (orderedCase (now (log .entry)) numbers) (length (now (order .entry))) (now (table .entry)) ⌝ }
+    ensures result { λ r. ⌜ r ≡ roomCode (orderedCase (window (now (log .entry)) starting) numbers) (length (now (order .entry))) (length (now (table .entry))) ⌝ }
+    ensures order { λ _. ⌜ now (order .exit) ≡ orderOf (orderedCase (window (now (log .entry)) starting) numbers) (now (order .entry)) (length (now (table .entry))) ⌝ }
+    ensures table { λ _. ⌜ now (table .exit) ≡ tableOf (orderedCase (window (now (log .entry)) starting) numbers) (length (now (order .entry))) (now (table .entry)) ⌝ }
 {
     if table.len() < 64 {
         return 25;
@@ -78,17 +86,17 @@ fn write(log: &[u8], numbers: [u8; 32], order: &mut [u8], table: &mut [u8]) -> u
         return 25;
     }
     copy_bytes(&numbers, n, order);
-    let values = replay::tables::table(log, &numbers[..n]);
+    let values = replay::tables::table(log, starting, &numbers[..n]);
     images::put_values(&values, table);
     0
 }
 
 // The refusal's number, 255 for 'no order', or what there is to write, whatever count of constraints is left.
-fn answered(log: &[u8], o: Outcome, order: &mut [u8], table: &mut [u8]) -> u32
+fn answered(log: &[u8], starting: [u16; 32], o: Outcome, order: &mut [u8], table: &mut [u8]) -> u32
     requires { ⌜ (loadNumber (now log) ≡ 0) × (o .number ≡ 0 → o .found ≡ true → T (isOrder (transactionsIn (now log)) (take (transactionsIn (now log)) (o .order)))) ⌝ }
-    ensures result { λ r. ⌜ ((left : ℕ) → r ≡ saidCode (foundDecision (now (log .entry)) o left) (length (now (order .entry))) (length (now (table .entry)))) ⌝ }
-    ensures order { λ _. ⌜ ((left : ℕ) → now (order .exit) ≡ saidOrder (foundDecision (now (log .entry)) o left) (now (order .entry)) (length (now (table .entry)))) ⌝ }
-    ensures table { λ _. ⌜ ((left : ℕ) → now (table .exit) ≡ saidTable (foundDecision (now (log .entry)) o left) (length (now (order .entry))) (now (table .entry))) ⌝ }
+    ensures result { λ r. ⌜ ((left : ℕ) → r ≡ saidCode (foundDecision (window (now (log .entry)) starting) o left) (length (now (order .entry))) (length (now (table .entry)))) ⌝ }
+    ensures order { λ _. ⌜ ((left : ℕ) → now (order .exit) ≡ saidOrder (foundDecision (window (now (log .entry)) starting) o left) (now (order .entry)) (length (now (table .entry)))) ⌝ }
+    ensures table { λ _. ⌜ ((left : ℕ) → now (table .exit) ≡ saidTable (foundDecision (window (now (log .entry)) starting) o left) (length (now (order .entry))) (now (table .entry))) ⌝ }
 {
     let number = o.number as u32;
     if number != 0 {
@@ -99,21 +107,21 @@ fn answered(log: &[u8], o: Outcome, order: &mut [u8], table: &mut [u8]) -> u32
         return 255;
     }
     let numbers = o.order;
-    write(log, numbers, order, table)
+    write(log, starting, numbers, order, table)
 }
 
-// The order and the table of a log, in two lists of bytes: 0; 255 for 'no order'; else the refusal's number.
-#[no_mangle]
-pub extern "C" fn beaconcrumb_decide(
+// The order and the table of a log that starts from these values, in two lists of bytes: 0; 255 for 'no order'; else the refusal's number.
+fn decide(
     log: &[u8],
+    starting: [u16; 32],
     encoding: u8,
     pruning: u8,
     order: &mut [u8],
     table: &mut [u8],
 ) -> u32
-    ensures result { λ r. ⌜ r ≡ decideCode (now (log .entry)) encoding pruning (length (now (order .entry))) (length (now (table .entry))) ⌝ }
-    ensures order { λ _. ⌜ now (order .exit) ≡ orderAfter (now (log .entry)) encoding pruning (now (order .entry)) (length (now (table .entry))) ⌝ }
-    ensures table { λ _. ⌜ now (table .exit) ≡ tableAfter (now (log .entry)) encoding pruning (length (now (order .entry))) (now (table .entry)) ⌝ }
+    ensures result { λ r. ⌜ r ≡ windowCode (window (now (log .entry)) starting) encoding pruning (length (now (order .entry))) (length (now (table .entry))) ⌝ }
+    ensures order { λ _. ⌜ now (order .exit) ≡ windowOrder (window (now (log .entry)) starting) encoding pruning (now (order .entry)) (length (now (table .entry))) ⌝ }
+    ensures table { λ _. ⌜ now (table .exit) ≡ windowTable (window (now (log .entry)) starting) encoding pruning (length (now (order .entry))) (now (table .entry)) ⌝ }
 {
     let refused = log::number(log) as u32;
     if refused != 0 {
@@ -130,7 +138,44 @@ pub extern "C" fn beaconcrumb_decide(
         &mut tables,
         &mut chosen,
     );
-    answered(log, o, order, table)
+    answered(log, starting, o, order, table)
+}
+
+// The same of a log alone, which starts from 32 zeros.
+#[no_mangle]
+pub extern "C" fn beaconcrumb_decide(
+    log: &[u8],
+    encoding: u8,
+    pruning: u8,
+    order: &mut [u8],
+    table: &mut [u8],
+) -> u32
+    ensures result { λ r. ⌜ r ≡ decideCode (now (log .entry)) encoding pruning (length (now (order .entry))) (length (now (table .entry))) ⌝ }
+    ensures order { λ _. ⌜ now (order .exit) ≡ orderAfter (now (log .entry)) encoding pruning (now (order .entry)) (length (now (table .entry))) ⌝ }
+    ensures table { λ _. ⌜ now (table .exit) ≡ tableAfter (now (log .entry)) encoding pruning (length (now (order .entry))) (now (table .entry)) ⌝ }
+{
+    decide(log, [0; 32], encoding, pruning, order, table)
+}
+
+// The same of a log and the 64 bytes of the table that it starts from; 36 for a start of any other length.
+#[no_mangle]
+pub extern "C" fn beaconcrumb_decide_from(
+    log: &[u8],
+    start: &[u8],
+    encoding: u8,
+    pruning: u8,
+    order: &mut [u8],
+    table: &mut [u8],
+) -> u32
+    ensures result { λ r. ⌜ r ≡ decideFromCode (now (log .entry)) (now (start .entry)) encoding pruning (length (now (order .entry))) (length (now (table .entry))) ⌝ }
+    ensures order { λ _. ⌜ now (order .exit) ≡ decideFromOrder (now (log .entry)) (now (start .entry)) encoding pruning (now (order .entry)) (length (now (table .entry))) ⌝ }
+    ensures table { λ _. ⌜ now (table .exit) ≡ decideFromTable (now (log .entry)) (now (start .entry)) encoding pruning (length (now (order .entry))) (now (table .entry)) ⌝ }
+{
+    if start.len() != 64 {
+        return 36;
+    }
+    let starting = images::values(start);
+    decide(log, starting, encoding, pruning, order, table)
 }
 
 // The polygraph of a case, in a list of bytes, or the number with which it is refused and nothing.

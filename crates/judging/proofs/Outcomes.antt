@@ -12,7 +12,8 @@ use mathlib.Core.Option.{Option, none, some}
 use lib.Dec.{T, eqb, ltb}
 use lib.ListN.{length, take, drop, replicate}
 use lib.Seq.{take-at}
-use Rattle.model.specs.History.{History, size, legal, finalTable}
+use Rattle.model.specs.History.{History, size, legal, replay}
+use Rattle.model.specs.Window.{zeros, fromZeros}
 use Rattle.model.specs.Log.{transactionsIn, loadNumber, historyOf}
 use Rattle.model.specs.Polygraph.{constraints}
 use Rattle.model.specs.Search.{firstLegal}
@@ -42,13 +43,13 @@ module _ (b : List ℕ) (ok : loadNumber b ≡ 0) where
   h = historyOf b
 
   abbrev held : Case
-  held = loadedCase b
+  held = loadedCase (fromZeros b)
 
   history-is : historyIn held ≡ h
-  history-is = ap historyOf (load-holds b)
+  history-is = ap historyOf (load-holds (fromZeros b))
 
   not-fresh : isFresh (stageOf held) ≡ false
-  not-fresh = ap isFresh (load-stage b ok)
+  not-fresh = ap isFresh (load-stage (fromZeros b) ok)
 
   refusal-is : decideRefusal held 2 1 4096 ≡ judgeNumber b
   unfolding encodeRefusal settingRefusal placesRefusal
@@ -92,13 +93,13 @@ module _ (b : List ℕ) (c : Case) (by : OrderedBy b c) where
   abbrev o : List ℕ
   o = by .order
 
-  same : historyIn (loadedCase b) ≡ historyOf b
+  same : historyIn (loadedCase (fromZeros b)) ≡ historyOf b
   same = history-is b (by .loads)
 
   legal-here : T (legal (historyOf b) o)
   legal-here = first-some (historyOf b) o (by .first) .0
 
-  legal-held : T (legal (historyIn (loadedCase b)) o)
+  legal-held : T (legal (historyIn (loadedCase (fromZeros b))) o)
   legal-held = subst (λ (x : History). T (legal x o)) (sym same) legal-here
 
   long : length o ≡ transactionsIn b
@@ -110,15 +111,16 @@ module _ (b : List ℕ) (c : Case) (by : OrderedBy b c) where
   order-is : (n : ℕ) → n ≡ transactionsIn b → take n (orderLeft c (replicate 32 0)) ≡ o
   order-is n e =
       ap (λ (x : Case). take n (orderLeft x (replicate 32 0))) (by .case-is)
-      ∙ ap (take n) (order-writes (loadedCase b) o (not-fresh b (by .loads)) legal-held (replicate 32 0) (omega (arith, long, few, history-size b)))
+      ∙ ap (take n) (order-writes (loadedCase (fromZeros b)) o (not-fresh b (by .loads)) legal-held (replicate 32 0) (omega (arith, long, few, history-size b)))
       ∙ take-at o (drop (length o) (replicate 32 0)) n (long ∙ sym e)
 
-  table-is : tableLeft c (replicate 32 0) ≡ finalTable (historyOf b) o
+  table-is : tableLeft c (replicate 32 0) ≡ replay (historyOf b) zeros o
+  unfolding loadedCase
   table-is =
       ap (λ (x : Case). tableLeft x (replicate 32 0)) (by .case-is)
-      ∙ table-writes (loadedCase b) o (not-fresh b (by .loads)) legal-held (replicate 32 0) (omega arith)
-      ∙ append-nil (finalTable (historyIn (loadedCase b)) o)
-      ∙ ap (λ (x : History). finalTable x o) same
+      ∙ table-writes (loadedCase (fromZeros b)) o (not-fresh b (by .loads)) legal-held (replicate 32 0) (omega arith)
+      ∙ append-nil (replay (historyIn (loadedCase (fromZeros b))) zeros o)
+      ∙ ap (λ (x : History). replay x zeros o) same
 
   -- what is printed from them is what Judge prints
   pub text-is : (n : ℕ) (order writers table : List ℕ) → n ≡ transactionsIn b → order ≡ orderLeft c (replicate 32 0) → writers ≡ writersOf (historyOf b) → table ≡ tableLeft c (replicate 32 0)

@@ -1,10 +1,11 @@
-// What Judge does with a log: Load, Decide with encoding 2 and pruning 1, Order and Table; and the text of what they give, in a buffer that is long
+// What Judge does with a log: Load beside 32 zeros, Decide with encoding 2 and pruning 1, Order and Table; and the text of what they give, in a buffer that is long
 // enough. The keys that are written come from the log.
 ghost use mathlib.Core.Path.{_≡_};
 ghost use Prim.Native.Nat.{_≤_};
 ghost use lib.ListN.{length};
 ghost use Rattle.model.specs.Log.{loadNumber, historyOf};
 ghost use Rattle.model.specs.Search.{firstLegal};
+ghost use Rattle.model.specs.Window.{fromZeros};
 ghost use Rattle.checker.specs.Cases.{loadedCase};
 ghost use Rattle.checker.specs.Decisions.{deciding};
 ghost use Rattle.report.specs.Text.{Wrote, Printed};
@@ -30,7 +31,7 @@ fn ordered(log: &[u8], c: Case, out: &mut [u8]) -> usize
 
 // The text for a decision of a log that Load took.
 fn decided(log: &[u8], d: Decision, out: &mut [u8]) -> usize
-    requires { ⌜ (loadNumber (now log) ≡ 0) × (d ≡ deciding (loadedCase (now log)) 2 1 4096) × (1024 ≤ length (now out)) ⌝ }
+    requires { ⌜ (loadNumber (now log) ≡ 0) × (d ≡ deciding (loadedCase (fromZeros (now log))) 2 1 4096) × (1024 ≤ length (now out)) ⌝ }
     ensures { λ r. ⌜ Wrote (now (out .entry)) 0 (judgeText (now (log .entry))) (now (out .exit)) r ⌝ }
 {
     let c = d.case;
@@ -47,7 +48,8 @@ pub fn judge(log: &[u8], out: &mut [u8; 1024]) -> usize
     ensures { λ r. ⌜ Printed (judgeText (now (log .entry))) (now (out .entry)) (now (out .exit)) r ⌝ }
 {
     let fresh = Case::fresh();
-    let a = fresh.load(log);
+    let zeros = [0u16; 32];
+    let a = fresh.load(log, &zeros);
     let reply = a.reply;
     let number = reply.number();
     if number != 0 {

@@ -20,6 +20,7 @@ use samples::same_case;
 use samples::with_byte;
 
 mod backs;
+mod tables;
 
 // The longest log's header with a byte more than it says: 1,157 bytes.
 fn longest_and_one() -> u64 {
@@ -232,9 +233,10 @@ fn state() {
         check_number(Case::fresh(), b""),
         check_number(Case::fresh(), b"\x00"),
     );
-    let again = held.load(b"\x00\x00\x00");
+    let zeros = [0u16; 32];
+    let again = held.load(b"\x00\x00\x00", &zeros);
     let after = again.case;
-    let wrong = Case::fresh().load(b"\x00\x00\x00");
+    let wrong = Case::fresh().load(b"\x00\x00\x00", &zeros);
     let blank = wrong.case;
     text(b"after a refusal the case is as it was, loaded; fresh:");
     yes_no(same_case(held, after));
@@ -287,5 +289,6 @@ fn main() {
     backs::taken();
     several();
     state();
+    tables::show_all();
     proposed();
 }

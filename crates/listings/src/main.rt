@@ -1,5 +1,6 @@
 // What Encode writes, against a second, direct listing: of small random histories and of full windows, some with read-backs, in the six settings, with
-// lists exactly as long as they must be, longer, and too short by one place or one word.
+// lists exactly as long as they must be, longer, and too short by one place or one word. Each log is loaded beside a random starting table, of which the
+// direct listing knows nothing.
 use checker::Case;
 use checker::Encoding;
 use checker::Reply;
@@ -8,7 +9,9 @@ use samples::lines::end;
 use samples::lines::number;
 use samples::lines::text;
 use samples::loaded;
+use samples::loaded_from;
 use samples::same_case;
+use samples::tables::drawn;
 use trial::log::Bytes;
 use windows::Form;
 use windows::Shape;
@@ -185,11 +188,12 @@ fn with_refusals(t: Tally, c: Case, l: Lent, p: Polygraph) -> Tally {
     out
 }
 
-// One setting of a log more.
-fn with_setting(t: Tally, log: &[u8], encoding: u8, pruning: u8, mark: u32) -> Tally {
+// One setting of a log more, beside random table n.
+fn with_setting(t: Tally, log: &[u8], n: u64, encoding: u8, pruning: u8, mark: u32) -> Tally {
     let mut list = [mark; 16384];
     let p = direct::encoded(log, encoding, pruning, &mut list);
-    let c = loaded(log);
+    let starting = drawn(n);
+    let c = loaded_from(log, &starting);
     let l = Lent {
         encoding,
         pruning,
@@ -208,15 +212,15 @@ fn counted(t: Tally, log: &[u8]) -> Tally {
     out
 }
 
-// The six settings of the log that is the first `length` bytes.
-fn with_log(t: Tally, bytes: &[u8], length: usize, mark: u32) -> Tally {
+// The six settings of the log that is the first `length` bytes, beside random table n.
+fn with_log(t: Tally, bytes: &[u8], length: usize, n: u64, mark: u32) -> Tally {
     if length > bytes.len() {
         return t;
     }
     let log = &bytes[0..length];
     let mut out = counted(t, log);
     for s in 0..6u8 {
-        let next = with_setting(out, log, s / 2, s % 2, mark);
+        let next = with_setting(out, log, n, s / 2, s % 2, mark);
         out = next;
     }
     out
@@ -268,7 +272,7 @@ fn totals(source: Source, count: u64) -> Tally {
     for seed in 0..count {
         let l = log_by(source, seed);
         let bytes = l.bytes;
-        let next = with_log(t, &bytes, l.length, mark_by(source, seed));
+        let next = with_log(t, &bytes, l.length, seed, mark_by(source, seed));
         t = next;
     }
     t

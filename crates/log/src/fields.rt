@@ -1,4 +1,4 @@
-// Bytes and two-byte fields of a log, as numbers.
+// Bytes and two-byte fields of a log, as numbers. A starting table from C has such fields too.
 ghost use mathlib.Core.Path.{_≡_};
 ghost use Prim.Native.Nat.{_+_, _<_};
 ghost use lib.ListN.{length};
@@ -19,7 +19,7 @@ pub(crate) fn byte(log: &[u8], at: usize) -> usize
 }
 
 // A two-byte field has the low byte first.
-pub(crate) fn pair(log: &[u8], at: usize) -> usize
+pub fn pair(log: &[u8], at: usize) -> usize
     requires { ⌜ at + 1 < length (now log) ⌝ }
     ensures { λ r. ⌜ (r ≡ pairAt (now (log .entry)) at) × (r < 65536) ⌝ }
 {

@@ -1,4 +1,4 @@
-// Logs of any bytes: the number that Load gives, and readers of a log that it takes.
+// Logs of any bytes: the number that Load gives a log, and readers of a log that it takes.
 // `fields` reads bytes and two-byte fields; all of a log is read through `view`; `entries` and `bodies` make Load's tests.
 ghost use mathlib.Core.Path.{_≡_};
 ghost use Prim.Native.Nat.{_+_, _<_, _≤_};
@@ -10,7 +10,7 @@ use view::header_of;
 
 mod bodies;
 mod entries;
-mod fields;
+pub mod fields;
 mod view;
 
 // The number that Load gives: 0 where the log is taken, else the first that applies of 1, 2, 3 or 35; of an entry 4, 5; 6; of a body 7, 8, 9, 10 or 34, 11.

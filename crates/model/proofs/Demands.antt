@@ -4,26 +4,31 @@
 -- What the calls do is held to these definitions by their contracts (crates `checker` and `writer`).
 use Prim.Native.Nat.{ℕ, _≤_, _<_}
 use native.Mathlib.Omega.{arith}
-use mathlib.Core.Path.{_≡_, refl, subst}
+use mathlib.Core.Path.{_≡_, refl, sym, subst}
 use mathlib.Core.Logic.{_⊎_, _↔_, _≢_}
+use mathlib.Core.Bool.{false, _&&_}
 use mathlib.Core.Option.{none, some}
 use mathlib.Core.List.{List}
 use lib.Dec.{T}
-use lib.ListN.{length}
-use Rattle.model.specs.Lists.{All}
-use Rattle.model.specs.History.{History, start, size, operationsOf, isReadBack, readBacks, wellFormed, writes, reads, everyReadExplained, everyReadNamesWhatItSees, isOrder, legal, finalTable, withoutReadBacks}
+use lib.ListN.{length, getD}
+use Rattle.model.specs.Lists.{All, any, upToElement}
+use Rattle.model.specs.History.{Operation, History, start, size, operationsOf, isReadBack, readBacks, goodKeys, wellFormed, writes, reads, lastWriter, everyReadExplained, everyReadNamesWhatItSees, isOrder, keepsCabinets, legal, replay, sees, valueOf, valueSeen, everyReadSeesItsWritersValue, everyReadSeesTheValueItNames, withoutReadBacks}
 use Rattle.model.specs.Log.{startAt, backAt, bodyNumber, loadNumber, historyOf, LaidOut}
+use Rattle.model.specs.Window.{Window, windowNumber}
 use Rattle.model.specs.Refusals.{Shorter, Longer, FirstRefused, SecondRead, SecondWrite}
 use Rattle.model.specs.Writing.{logOf, hasLog}
 use Rattle.model.specs.Polygraph.{goodRead, edge, successor, Linked, isHead, tail, has, reach, pass, rows, unpruned, polygraph, Way, AcyclicSelection, Respects}
 use Rattle.model.specs.Search.{firstLegal, LexLess}
 use Rattle.model.proofs.Loaded.{Bytes, operationOf, back-is, history-size, keys-good, well-formed, loadable-log}
 use Rattle.model.proofs.Numbers.{numbers-listed, shorter-iff, longer-iff, body-iff, read-out, read-in, write-out, write-in}
+use Rattle.model.proofs.Windows.{number-of-log, table-iff, window-numbers}
+use Rattle.model.proofs.Values.{replay-at, start-iff, sees-start, start-seen, writers-values, named-values}
 use Rattle.model.proofs.Takes.{takes, laid-out}
 use Rattle.model.proofs.Writing.{loads-back, same-bytes}
 use Rattle.model.proofs.Logs.{has-log-out, has-log-of, has-log-in, good-narrow, log-good}
 use Rattle.model.proofs.Twins.{goods-same, legal-same, first-same, polygraph-same, table-same, bare-alike}
 use Rattle.model.proofs.ReadBacks.{behind, backs-own, explained-sees}
+use Rattle.model.proofs.Basics.{and-r}
 use Rattle.model.proofs.Legal.{reads-small, bad-in, good-other, legal-out}
 use Rattle.model.proofs.Known.{kinds-out}
 use Rattle.model.proofs.Pruning.{polygraph-iff, legal-iff, polygraph-done}
@@ -45,11 +50,11 @@ load-takes-only-laid-out b taken = laid-out b taken
 pub load-takes-every-well-formed : (b : List ℕ) → LaidOut b → T (wellFormed (historyOf b)) → loadNumber b ≡ 0
 load-takes-every-well-formed b laid good = takes b laid good
 
--- ---- what the numbers tell: of any bytes
+-- ---- what the numbers of a log tell: of any bytes, beside a starting table of 32 values
 
--- Load's numbers are 0, 1 to 11, 34 and 35.
-pub numbers-of-load : (b : List ℕ) → (loadNumber b ≤ 11) ⊎ ((loadNumber b ≡ 34) ⊎ (loadNumber b ≡ 35))
-numbers-of-load b = numbers-listed b
+-- The numbers of a log are 0, 1 to 11, 34 and 35.
+pub numbers-of-a-log : (b : List ℕ) → (loadNumber b ≤ 11) ⊎ ((loadNumber b ≡ 34) ⊎ (loadNumber b ≡ 35))
+numbers-of-a-log b = numbers-listed b
 
 -- 3 is given exactly to a log that is shorter than its counts say, and 35 to one that is longer, where neither 1 nor 2 is.
 pub three-exactly-when-shorter : (b : List ℕ) → (loadNumber b ≡ 3) ↔ Shorter b
@@ -105,26 +110,29 @@ well-formed-counts-have-their-byte h good t l = good-narrow h good t l
 
 -- ---- read-backs
 
+keys-of : (b : List ℕ) → loadNumber b ≡ 0 → (t : ℕ) → t < size (historyOf b) → T (goodKeys t (operationsOf (historyOf b) t))
+keys-of b taken t l = keys-good b taken t (subst (λ n. t < n) (history-size b) l)
+
 -- In a loaded log a read-back, by its definition a read with a write of its key before it in its transaction, names its own transaction.
 pub read-backs-name-their-own : (b : List ℕ) → loadNumber b ≡ 0 → let h = historyOf b in
     (t : ℕ) → t < size h → All (λ o. (o .argument ≡ t) × T (writes h t (o .key))) (readBacks (operationsOf h t))
-read-backs-name-their-own b taken t l = backs-own (historyOf b) t (keys-good b taken t (subst (λ n. t < n) (history-size b) l))
+read-backs-name-their-own b taken t l = backs-own (historyOf b) t (keys-of b taken t l)
 
 -- So 'every read explained' means in a loaded log that every read names what it sees: a read-back its own transaction's write, any other read the last
 -- earlier writer of the key, or the start.
 pub explained-by-what-it-sees : (b : List ℕ) → loadNumber b ≡ 0 → (o : List ℕ)
     → everyReadExplained (historyOf b) o ≡ everyReadNamesWhatItSees (historyOf b) o
-explained-by-what-it-sees b taken = explained-sees (historyOf b) (λ t l. keys-good b taken t (subst (λ n. t < n) (history-size b) l))
+explained-by-what-it-sees b taken = explained-sees (historyOf b) (keys-of b taken)
 
 -- The place of an operation in its transaction, and that of its body in the log, say the same of it.
 pub read-backs-by-their-bytes : (b : List ℕ) (t m : ℕ) → isReadBack (behind (operationOf b t) m) (operationOf b t m) ≡ backAt b (startAt b t) m
 read-backs-by-their-bytes b t m = back-is b t m
 
 -- Its read-backs add no reader, no edge and no constraint to a history, loaded or not: without them it has the same good reads, the same legal orders, the
--- same first one, the same polygraph in every setting, and leaves the same table.
+-- same first one, the same polygraph in every setting, and leaves the same table, from any starting one.
 pub read-backs-add-nothing : (h : History) → let g = withoutReadBacks h in
     (goodRead g ≡ goodRead h) × (legal g ≡ legal h) × (firstLegal g ≡ firstLegal h) × (polygraph g ≡ polygraph h)
-    × ((o : List ℕ) → finalTable g o ≡ finalTable h o)
+    × ((table o : List ℕ) → replay g table o ≡ replay h table o)
 read-backs-add-nothing h =
     let a = bare-alike h in
     let g = withoutReadBacks h in
@@ -139,6 +147,52 @@ own-read-unexplained b taken t k r =
     let small = reads-small h t k t r in
     let bad = bad-in h t k t r (λ (e : t ≡ start). omega (arith, ok .few)) (λ g. good-other h k t t g refl) in
     ((λ e. kinds-out h ok e (λ u v. T (edge h e u v)) (λ u v x. x) .bads t bad), λ o l. legal-out h (ok .few) o l .1 .bads t bad)
+
+-- ---- starting tables
+
+-- 36 is given exactly to a window whose starting table isn't 32 values, whatever its log; any other window has its log's number. So the numbers of a
+-- window are those of a log, and 36; Load tests 21 before them.
+pub thirty-six-exactly-without-32-values : (w : Window) → (windowNumber w ≡ 36) ↔ (length (w .starting) ≢ 32)
+thirty-six-exactly-without-32-values w = table-iff w
+
+pub with-32-values-the-log-decides : (w : Window) → length (w .starting) ≡ 32 → windowNumber w ≡ loadNumber (w .bytes)
+with-32-values-the-log-decides w l = number-of-log w l
+
+pub numbers-of-a-window : (w : Window) → (windowNumber w ≤ 11) ⊎ ((windowNumber w ≡ 34) ⊎ ((windowNumber w ≡ 35) ⊎ (windowNumber w ≡ 36)))
+numbers-of-a-window w = window-numbers w
+
+module _ (b : List ℕ) (taken : loadNumber b ≡ 0) where
+  -- A replay has at a key the starting table's value where no transaction of it writes the key, that is where `lastWriter` gives the start; else what the
+  -- last that does wrote there.
+  pub replay-at-a-key : (table xs : List ℕ) (k : ℕ) → k < length table → let h = historyOf b in let u = lastWriter h k start xs in
+      (getD (replay h table xs) k 0 ≡ valueOf h table k u) × ((u ≡ start) ↔ (any (λ x. writes h x k) xs ≡ false))
+  replay-at-a-key table xs k l = let few = loadable-log b taken .few in (replay-at (historyOf b) k few xs table l, start-iff (historyOf b) k few xs)
+
+  module _ (o : List ℕ) where
+    -- A read by t sees the start exactly where no transaction before t writes its key, and it is no read-back; then it sees the starting table's value.
+    pub sees-the-start-exactly-without-an-earlier-writer : let h = historyOf b in (t : ℕ) → t < size h → (earlier : List Operation) (r : Operation)
+        → (sees h o t earlier r ≡ start) ↔ ((isReadBack earlier r ≡ false) × (any (λ x. writes h x (r .key)) (upToElement t o) ≡ false))
+    sees-the-start-exactly-without-an-earlier-writer t l earlier r = sees-start (historyOf b) (loadable-log b taken .few) o t l earlier r
+
+    pub and-then-sees-the-starting-value : let h = historyOf b in (t : ℕ) → t < size h → (earlier : List Operation) (r : Operation) → (table : List ℕ) → r .key < length table
+        → (isReadBack earlier r ≡ false) × (any (λ x. writes h x (r .key)) (upToElement t o) ≡ false) → valueSeen h table o t earlier r ≡ getD table (r .key) 0
+    and-then-sees-the-starting-value t l earlier r table low u = start-seen (historyOf b) (loadable-log b taken .few) o t l earlier r table low u
+
+    module _ (table : List ℕ) (long : length table ≡ 32) where
+      -- In any order the value that a read sees is that of the write, or of the start, that `sees` names ..
+      pub every-read-sees-its-writers-value : T (everyReadSeesItsWritersValue (historyOf b) table o)
+      every-read-sees-its-writers-value =
+          let h = historyOf b in
+          let ok = loadable-log b taken in
+          writers-values h (ok .few) table o (keys-of b taken) (λ t l. subst (λ n. All (λ r. r .key < n) (operationsOf h t)) (sym long) (ok .keys t))
+
+      -- .. and in a legal one the value that it names, from whatever starting table.
+      pub every-read-sees-the-value-it-names : T (legal (historyOf b) o) → T (everyReadSeesTheValueItNames (historyOf b) table o)
+      unfolding legal
+      every-read-sees-the-value-it-names l =
+          let h = historyOf b in
+          let explains = and-r (keepsCabinets h o) (everyReadExplained h o) (and-r (isOrder (size h) o) (keepsCabinets h o && everyReadExplained h o) l) in
+          named-values h table o every-read-sees-its-writers-value (subst T (explained-sees h (keys-of b taken) o) explains)
 
 -- ---- the first legal order: of every history, loaded or not
 

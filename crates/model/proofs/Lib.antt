@@ -20,6 +20,8 @@ pub mod ReadBacks
 pub mod Loaded
 pub mod Twins
 pub mod Numbers
+pub mod Windows
+pub mod Values
 pub mod Takes
 pub mod Writing
 pub mod Bounds

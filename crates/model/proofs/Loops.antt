@@ -10,7 +10,7 @@ use lib.Dec.{T, eqb}
 use lib.Bits.{bitAnd, bitOr, and-le-l}
 use lib.ListN.{length, getD, take}
 use Rattle.model.specs.Lists.{any, keep, each, fold, upTo, count, upToElement, bit, wordOf}
-use Rattle.model.specs.History.{History, writes, lastWriter, stored, replay, finalTable}
+use Rattle.model.specs.History.{History, writes, lastWriter}
 use Rattle.model.specs.Polygraph.{Constraint, Polygraph, row, has, withSide, reach, closedOff, pass}
 use Rattle.model.proofs.Basics.{decide, clash, not-intro, true-eq, false-eq, eq-eqb, ne-eqb, same?, any-upTo-out, any-upTo-in}
 use Rattle.model.proofs.Places.{Once, once-tail, count-here, count-there}
@@ -55,10 +55,6 @@ pub last-writer-snoc : (h : History) (k d : ℕ) (xs : List ℕ) (x : ℕ) → l
 unfolding lastWriter
 last-writer-snoc h k d [] x = refl
 last-writer-snoc h k d (y ∷ xs) x = last-writer-snoc h k (cond (writes h y k) y d) xs x
-
-pub table-snoc : (h : History) (xs : List ℕ) (x : ℕ) → finalTable h (xs ++ (x ∷ [])) ≡ stored h (finalTable h xs) x
-unfolding finalTable replay
-table-snoc h xs x = fold-snoc (stored h) (lib.ListN.replicate 32 0) xs x
 
 -- what stands before the element at place i is the first i elements
 pub before-take : (o : List ℕ) → Once o → (i : ℕ) → i < length o → upToElement (getD o i 0) o ≡ take i o

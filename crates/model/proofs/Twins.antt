@@ -7,7 +7,7 @@ use mathlib.Core.List.{List, [], _∷_, map}
 use lib.Dec.{eqb, ltb}
 use lib.ListN.{length, getD, set}
 use Rattle.model.specs.Lists.{implies, all, any, keep, firstOr, fold, each, upTo, wordOf, upToElement}
-use Rattle.model.specs.History.{Transaction, History, start, size, noTransaction, withoutReadBacks, outward, cabinetOf, operationsOf, isRead, isWrite, outwardOf, mustPrecede, writes, reads, lastWriter, explained, everyReadExplained, isOrder, before, keepsCabinets, legal, stored, replay, finalTable, startingTable}
+use Rattle.model.specs.History.{Transaction, History, start, size, noTransaction, withoutReadBacks, outward, cabinetOf, operationsOf, isRead, isWrite, outwardOf, mustPrecede, writes, reads, lastWriter, explained, everyReadExplained, isOrder, before, keepsCabinets, legal, stored, replay}
 use Rattle.model.specs.Polygraph.{Polygraph, goodRead, nextOfCabinet, startRead, badRead, successor, chainEdge, edge, rows, inEnds, only, plainOf, plain, between, joined, isSuccessor, isHead, tailWithin, chained, constraints, passes, polygraph}
 use Rattle.model.specs.Search.{firstLegal}
 use Rattle.model.proofs.First.{first-by}
@@ -158,9 +158,9 @@ module _ (g h : History) (a : Alike g h) where
   first-same = first-by g h (a .sizes) legal-same
 
   -- the same table
-  pub table-same : (o : List ℕ) → finalTable g o ≡ finalTable h o
-  unfolding finalTable replay stored
-  table-same o = λ i. fold (λ table t. fold (λ tb x. set tb (x .key) (x .argument)) table (a .stores t i)) startingTable o
+  pub table-same : (table o : List ℕ) → replay g table o ≡ replay h table o
+  unfolding replay stored
+  table-same table o = λ i. fold (λ tb t. fold (λ tb x. set tb (x .key) (x .argument)) tb (a .stores t i)) table o
 
 -- ---- without the read-backs
 

@@ -1,10 +1,11 @@
--- Histories, replay and legal orders: document 01, 'The log' (its rules on operations) and 'Replay and legality', with card 1's read-backs. Assumes nothing.
+-- Histories, replay and legal orders: document 01, 'The log' (its rules on operations) and 'Replay and legality', with card 1's read-backs and card 5's
+-- starting table. Assumes nothing.
 use Prim.Native.Nat.{ℕ, _+_}
 use mathlib.Core.Bool.{Bool, true, not, cond, _&&_, _||_}
 use mathlib.Core.List.{List, [], _∷_, map}
 use lib.Dec.{eqb, ltb, leb}
-use lib.ListN.{length, getD, set, replicate}
-use Rattle.model.specs.Lists.{implies, all, any, keep, keepAfter, allAfter, fold, upTo, count, place, upToElement}
+use lib.ListN.{length, getD, set}
+use Rattle.model.specs.Lists.{implies, all, any, keep, keepAfter, allAfter, firstOr, fold, upTo, count, place, upToElement}
 
 -- An operation: kind 0 is a read and 1 a write. A write's argument is its value; a read's is the number of the transaction whose write it saw,
 -- or 65535 for the starting value.
@@ -155,15 +156,37 @@ legal h o = isOrder (size h) o && (keepsCabinets h o && everyReadExplained h o)
 unfoldable pub stored : History → List ℕ → ℕ → List ℕ
 stored h table t = fold (λ tb o. set tb (o .key) (o .argument)) table (keep isWrite (operationsOf h t))
 
--- Replay runs the transactions one after another: the reads look at the table as earlier transactions left it (a read-back at the write before it), then
--- the writes are stored. Reads change nothing: `sees` says whose write they see.
+-- Replay runs the transactions one after another, from a starting table: the reads look at the table as earlier transactions left it (a read-back at the
+-- write before it), then the writes are stored. Reads change nothing: `sees` says whose write they see, `valueSeen` its value.
 unfoldable pub replay : History → List ℕ → List ℕ → List ℕ
 replay h table o = fold (stored h) table o
 
--- The starting table is 0 for each of the 32 keys.
-abbrev pub startingTable : List ℕ
-startingTable = replicate 32 0
+-- ---- values: what a read sees, and what it names
 
--- the table which an order leaves
-unfoldable pub finalTable : History → List ℕ → List ℕ
-finalTable h o = replay h startingTable o
+-- what a run of operations leaves at key k, where v stood: the value of the last write of it
+abbrev pub leftAt : ℕ → ℕ → List Operation → ℕ
+leftAt k v os = fold (λ x o. cond (isWrite o && eqb (o .key) k) (o .argument) x) v os
+
+-- the value that transaction u wrote at key k; 0 where it writes none
+abbrev pub valueWritten : History → ℕ → ℕ → ℕ
+valueWritten h u k = leftAt k 0 (operationsOf h u)
+
+-- the value that stands for u at key k: what transaction u wrote there, or, for the start, the starting table's
+abbrev pub valueOf : History → List ℕ → ℕ → ℕ → ℕ
+valueOf h table k u = cond (eqb u start) (getD table k 0) (valueWritten h u k)
+
+-- The value that a read by t sees in the replay of an order from a starting table: the one that replay's table has at its key when t comes; a
+-- read-back sees that of the write before it, the nearest in `earlier`. The theorem `every-read-sees-its-writers-value` ties it to `sees`.
+unfoldable pub valueSeen : History → List ℕ → List ℕ → ℕ → List Operation → Operation → ℕ
+valueSeen h table o t earlier r =
+    cond (isReadBack earlier r) (firstOr r (λ p. isWrite p && eqb (p .key) (r .key)) earlier .argument) (getD (replay h table (upToElement t o)) (r .key) 0)
+
+-- of every read, read-backs too, the value seen is that of the write, or of the start, that `sees` names ..
+unfoldable pub everyReadSeesItsWritersValue : History → List ℕ → List ℕ → Bool
+everyReadSeesItsWritersValue h table o =
+    all (λ t. allAfter (λ earlier r. implies (isRead r) (eqb (valueSeen h table o t earlier r) (valueOf h table (r .key) (sees h o t earlier r)))) [] (operationsOf h t)) (upTo (size h))
+
+-- .. and that of the one that the read itself names: for 65535 the starting table's
+unfoldable pub everyReadSeesTheValueItNames : History → List ℕ → List ℕ → Bool
+everyReadSeesTheValueItNames h table o =
+    all (λ t. allAfter (λ earlier r. implies (isRead r) (eqb (valueSeen h table o t earlier r) (valueOf h table (r .key) (r .argument)))) [] (operationsOf h t)) (upTo (size h))

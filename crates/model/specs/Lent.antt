@@ -3,7 +3,7 @@ use Prim.Native.Nat.{ℕ, _-_}
 use mathlib.Core.List.{List, _++_}
 use mathlib.Core.Option.{Option, none, some}
 use lib.ListN.{length, take, drop, replicate}
-use Rattle.model.specs.History.{History, finalTable}
+use Rattle.model.specs.History.{History, replay}
 use Rattle.model.specs.Polygraph.{Constraint, constraints, polygraph}
 
 -- four zeros
@@ -35,6 +35,6 @@ orderNumbers (some o) = o ++ replicate (32 - length o) 0
 unfoldable pub writtenOrder : ℕ → List ℕ → List ℕ → List ℕ
 writtenOrder n numbers ys = take n numbers ++ drop n ys
 
--- Table writes 32 values, by key: the table which the order leaves. Further places are untouched.
-unfoldable pub writtenTable : History → List ℕ → List ℕ → List ℕ
-writtenTable h o ys = finalTable h o ++ drop 32 ys
+-- Table writes 32 values, by key: the table which the order leaves, from the starting one. Further places are untouched.
+unfoldable pub writtenTable : History → List ℕ → List ℕ → List ℕ → List ℕ
+writtenTable h table o ys = replay h table o ++ drop 32 ys

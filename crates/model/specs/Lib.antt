@@ -4,6 +4,7 @@ pub mod Polygraph
 pub mod RowWords
 pub mod Log
 pub mod Refusals
+pub mod Window
 pub mod Writing
 pub mod Search
 pub mod Lent

@@ -7,10 +7,11 @@ use mathlib.Core.Option.{Option, none, some}
 use lib.Dec.{T, eqb}
 use lib.ListN.{length, getD, replicate}
 use Rattle.model.specs.Lists.{all, bit}
-use Rattle.model.specs.History.{Operation, Transaction, History, start, isReadBack, outward, writes, reads, lastWriter, explained, everyReadExplained, isOrder, keepsCabinets, legal, stored, replay, finalTable}
+use Rattle.model.specs.History.{Operation, Transaction, History, start, isReadBack, outward, writes, reads, lastWriter, explained, everyReadExplained, isOrder, keepsCabinets, legal, stored, replay}
 use Rattle.model.specs.Polygraph.{goodRead, nextOfCabinet, startRead, badRead, successor, chainEdge, edge, rows, Constraint, inEnds, plainOf, plain, between, joined, isSuccessor, isHead, tailWithin, chained, constraints, withSide, through, reach, closedOff, pass, passes, polygraph, has}
 use Rattle.model.specs.Lent.{encodedList}
 use Rattle.model.specs.Log.{pairAt, countsBefore, firstNumber, entryNumber, seen, backAt, seenBack, again, bodyNumber, bodiesNumber, loadNumber, transactionAt, historyOf}
+use Rattle.model.specs.Window.{window, windowNumber, zeros}
 use Rattle.model.specs.Search.{arrangements, firstLegal}
 
 -- a read of a key from a transaction, or from start
@@ -28,6 +29,8 @@ pub data Claim : Type 0 where
   number : ℕ → Claim
   holding : History → Claim
   final : (order table : List ℕ) → Claim
+  final-from : (starting order table : List ℕ) → Claim
+  number-from : (starting : List ℕ) (n : ℕ) → Claim
   order : List ℕ → Claim
   no-order : Claim
   counts : ℕ → ℕ → ℕ → Claim
@@ -93,7 +96,10 @@ sameOrder (some o) p = isOrderFound p o
 pub holds : List ℕ → History → Claim → Bool
 holds b h (number n) = eqb (loadNumber b) n
 holds b h (holding g) = sameHistory h g
-holds b h (final o table) = isOrderFound (firstLegal h) o && same (finalTable h o) table
+holds b h (final o table) = isOrderFound (firstLegal h) o && same (replay h zeros o) table
+-- the same from another starting table; and the number that Load gives beside one
+holds b h (final-from s o table) = isOrderFound (firstLegal h) o && same (replay h s o) table
+holds b h (number-from s n) = eqb (windowNumber (window b s)) n
 holds b h (order o) = isOrderFound (firstLegal h) o
 holds b h no-order = isNone (firstLegal h)
 holds b h (counts x y z) =
@@ -131,7 +137,7 @@ abbrev pub table : List Row
 table =
     -- A. T = 0: the empty order
     row (0x00 ∷ 0x00 ∷ 0x00 ∷ 0x00 ∷ [])
-    (number 0 ∷ holding [] ∷ order [] ∷ [])
+    (number 0 ∷ holding [] ∷ order [] ∷ final-from (9 ∷ (replicate 30 1 ++ (65535 ∷ []))) [] (9 ∷ (replicate 30 1 ++ (65535 ∷ []))) ∷ number-from [] 36 ∷ number-from (replicate 31 7) 36 ∷ number-from (replicate 32 7) 0 ∷ number-from (replicate 33 7) 36 ∷ [])
     -- B. 0 reads k at start, writes m; 1 reads m at start, writes k: no order
     ∷ row (0x02 ∷ 0x00 ∷ 0x04 ∷ 0x00 ∷ 0x00 ∷ 0x02 ∷ 0x00 ∷ 0x00 ∷ 0x01 ∷ 0x02 ∷ 0x02 ∷ 0x00 ∷ 0x00 ∷ 0x00 ∷ 0xff ∷ 0xff ∷ 0x01 ∷ 0x01 ∷ 0x07 ∷ 0x00 ∷ 0x00 ∷ 0x01 ∷ 0xff ∷ 0xff ∷ 0x01 ∷ 0x00 ∷ 0x07 ∷ 0x00 ∷ [])
     (number 0 ∷ holding (sent 0 (read 0 start ∷ write 1 7 ∷ []) ∷ sent 1 (read 1 start ∷ write 0 7 ∷ []) ∷ []) ∷ no-order ∷ [])
@@ -167,13 +173,13 @@ table =
     ∷ pruned-has-edge 1 2 1 ∷ pruned-has-edge 1 2 0 ∷ [])
     -- J. 0 writes k; 1 reads k at start: order 1 0; the read gives 1→0
     ∷ row (0x02 ∷ 0x00 ∷ 0x02 ∷ 0x00 ∷ 0x00 ∷ 0x01 ∷ 0x00 ∷ 0x00 ∷ 0x01 ∷ 0x01 ∷ 0x01 ∷ 0x00 ∷ 0x01 ∷ 0x00 ∷ 0x07 ∷ 0x00 ∷ 0x00 ∷ 0x00 ∷ 0xff ∷ 0xff ∷ [])
-    (number 0 ∷ holding (sent 0 (write 0 7 ∷ []) ∷ sent 1 (read 0 start ∷ []) ∷ []) ∷ order (1 ∷ 0 ∷ []) ∷ has-edge 0 1 0 ∷ [])
+    (number 0 ∷ holding (sent 0 (write 0 7 ∷ []) ∷ sent 1 (read 0 start ∷ []) ∷ []) ∷ order (1 ∷ 0 ∷ []) ∷ final-from (replicate 32 65535) (1 ∷ 0 ∷ []) (7 ∷ replicate 31 65535) ∷ has-edge 0 1 0 ∷ [])
     -- a read-back: 0 writes k and reads it back: order 0, no edge, no constraint
     ∷ row (0x01 ∷ 0x00 ∷ 0x02 ∷ 0x00 ∷ 0x00 ∷ 0x02 ∷ 0x00 ∷ 0x00 ∷ 0x01 ∷ 0x00 ∷ 0x07 ∷ 0x00 ∷ 0x00 ∷ 0x00 ∷ 0x00 ∷ 0x00 ∷ [])
     (number 0 ∷ holding (sent 0 (write 0 7 ∷ read 0 0 ∷ []) ∷ []) ∷ final (0 ∷ []) (7 ∷ replicate 31 0) ∷ edges-are 0 [] ∷ edges-are 1 [] ∷ edges-are 2 [] ∷ counts 0 0 0 ∷ [])
     -- 0 reads k at start, writes it and reads it back: order 0, no edge, no constraint
     ∷ row (0x01 ∷ 0x00 ∷ 0x03 ∷ 0x00 ∷ 0x00 ∷ 0x03 ∷ 0x00 ∷ 0x00 ∷ 0x00 ∷ 0x00 ∷ 0xff ∷ 0xff ∷ 0x01 ∷ 0x00 ∷ 0x07 ∷ 0x00 ∷ 0x00 ∷ 0x00 ∷ 0x00 ∷ 0x00 ∷ [])
-    (number 0 ∷ holding (sent 0 (read 0 start ∷ write 0 7 ∷ read 0 0 ∷ []) ∷ []) ∷ final (0 ∷ []) (7 ∷ replicate 31 0) ∷ edges-are 0 [] ∷ edges-are 1 [] ∷ edges-are 2 [] ∷ counts 0 0 0 ∷ [])
+    (number 0 ∷ holding (sent 0 (read 0 start ∷ write 0 7 ∷ read 0 0 ∷ []) ∷ []) ∷ final (0 ∷ []) (7 ∷ replicate 31 0) ∷ final-from (3 ∷ replicate 31 4) (0 ∷ []) (7 ∷ replicate 31 4) ∷ edges-are 0 [] ∷ edges-are 1 [] ∷ edges-are 2 [] ∷ counts 0 0 0 ∷ [])
     -- 0 reads k from 0, writes it and reads it back: no order, edge 0→0, as F
     ∷ row (0x01 ∷ 0x00 ∷ 0x03 ∷ 0x00 ∷ 0x00 ∷ 0x03 ∷ 0x00 ∷ 0x00 ∷ 0x00 ∷ 0x00 ∷ 0x00 ∷ 0x00 ∷ 0x01 ∷ 0x00 ∷ 0x07 ∷ 0x00 ∷ 0x00 ∷ 0x00 ∷ 0x00 ∷ 0x00 ∷ [])
     (number 0 ∷ holding (sent 0 (read 0 0 ∷ write 0 7 ∷ read 0 0 ∷ []) ∷ []) ∷ no-order ∷ has-edge 0 0 0 ∷ has-edge 1 0 0 ∷ has-edge 2 0 0 ∷ judged-as logF ∷ [])
@@ -188,9 +194,9 @@ table =
     (number 0 ∷ holding (sent 0 (write 1 7 ∷ read 0 1 ∷ []) ∷ sent 1 (write 0 5 ∷ []) ∷ []) ∷ final (1 ∷ 0 ∷ []) (5 ∷ 7 ∷ replicate 30 0) ∷ [])
     -- the program's example: order 1 0, key 0 value 5, key 1 value 7
     ∷ row (0x02 ∷ 0x00 ∷ 0x03 ∷ 0x00 ∷ 0x00 ∷ 0x02 ∷ 0x00 ∷ 0x00 ∷ 0x01 ∷ 0x01 ∷ 0x02 ∷ 0x00 ∷ 0x00 ∷ 0x00 ∷ 0x01 ∷ 0x00 ∷ 0x01 ∷ 0x01 ∷ 0x07 ∷ 0x00 ∷ 0x01 ∷ 0x00 ∷ 0x05 ∷ 0x00 ∷ [])
-    (number 0 ∷ holding (sent 0 (read 0 1 ∷ write 1 7 ∷ []) ∷ sent 1 (write 0 5 ∷ []) ∷ []) ∷ final (1 ∷ 0 ∷ []) (5 ∷ 7 ∷ replicate 30 0) ∷ [])
+    (number 0 ∷ holding (sent 0 (read 0 1 ∷ write 1 7 ∷ []) ∷ sent 1 (write 0 5 ∷ []) ∷ []) ∷ final (1 ∷ 0 ∷ []) (5 ∷ 7 ∷ replicate 30 0) ∷ final-from (9 ∷ 9 ∷ (replicate 29 1 ++ (65535 ∷ []))) (1 ∷ 0 ∷ []) (5 ∷ 7 ∷ (replicate 29 1 ++ (65535 ∷ []))) ∷ [])
     -- three bytes: refused
-    ∷ row (0x00 ∷ 0x00 ∷ 0x00 ∷ []) (number 1 ∷ [])
+    ∷ row (0x00 ∷ 0x00 ∷ 0x00 ∷ []) (number 1 ∷ number-from (replicate 32 7) 1 ∷ number-from (replicate 31 7) 36 ∷ [])
     -- T = 33 in three bytes: 1 stands before 2: refused
     ∷ row (0x21 ∷ 0x00 ∷ 0x00 ∷ []) (number 1 ∷ [])
     -- T = 33: refused
@@ -305,5 +311,5 @@ table =
     ∷ []
 
 pub histories-A-to-J : T (all (λ (r : Row). all (holds (r .log) (historyOf (r .log))) (r .claims)) table)
-unfolding bit isReadBack outward writes reads lastWriter explained everyReadExplained isOrder keepsCabinets legal stored replay finalTable goodRead nextOfCabinet startRead badRead successor chainEdge edge rows inEnds plainOf plain between joined isSuccessor isHead tailWithin chained constraints withSide through reach closedOff pass passes polygraph arrangements firstLegal pairAt countsBefore firstNumber entryNumber seen backAt seenBack again bodyNumber bodiesNumber loadNumber transactionAt historyOf encodedList holds
+unfolding bit isReadBack outward writes reads lastWriter explained everyReadExplained isOrder keepsCabinets legal stored replay goodRead nextOfCabinet startRead badRead successor chainEdge edge rows inEnds plainOf plain between joined isSuccessor isHead tailWithin chained constraints withSide through reach closedOff pass passes polygraph arrangements firstLegal pairAt countsBefore firstNumber entryNumber seen backAt seenBack again bodyNumber bodiesNumber loadNumber transactionAt historyOf windowNumber encodedList holds
 histories-A-to-J = tt

@@ -1,5 +1,6 @@
 // Cases put together outside the calls, of each odd kind: what Load of a good log, Check, Order and Table say of each. 100 stands for a legal order.
-// The log is document 01's example, whose order is 1 0.
+// The log is document 01's example, whose order is 1 0. The cases start from levels that are not zeros; then from tables of other kinds, which change how
+// none of them counts.
 use checker::Case;
 use checker::Stage;
 use samples::check_number;
@@ -12,6 +13,9 @@ use samples::lines::yes_no;
 use samples::load_number;
 use samples::loaded;
 use samples::same_case;
+use samples::tables::drawn;
+use samples::tables::levels;
+use samples::tables::same;
 use samples::with_byte;
 
 // The case that holds the example.
@@ -32,6 +36,7 @@ fn made(stage: Stage, length: usize, first: u8, second: u8, rest: u8) -> Case {
         stage,
         bytes,
         length,
+        starting: levels(),
         order,
     }
 }
@@ -45,6 +50,7 @@ fn damaged(stage: Stage, i: usize, x: u8) -> Case {
         stage,
         bytes,
         length: 24,
+        starting: levels(),
         order: [0; 32],
     }
 }
@@ -60,6 +66,7 @@ fn twice(stage: Stage) -> Case {
         stage,
         bytes,
         length: 16,
+        starting: levels(),
         order: [0; 32],
     }
 }
@@ -190,12 +197,134 @@ fn tables() {
     end();
 }
 
+// ---- starting tables
+
+fn with_table(c: Case, starting: [u16; 32]) -> Case {
+    let mut out = c;
+    out.starting = starting;
+    out
+}
+
+// What a case counts as: 0 fresh, 1 loaded, 2 ordered, 3 no order.
+fn counts_as(c: Case) -> u64 {
+    if load_number(c, b"\x00\x00\x00\x00") == 0 {
+        return 0;
+    }
+    let mut out = [9u8; 2];
+    let a = c.order(&mut out);
+    let r = a.reply;
+    match r.number() {
+        0 => 2,
+        24 => 3,
+        _ => 1,
+    }
+}
+
+// The same of a case with a table.
+fn count_with(c: Case, starting: [u16; 32]) {
+    number(counts_as(with_table(c, starting)));
+}
+
+// Four that count as fresh.
+fn count_fresh(starting: [u16; 32]) {
+    count_with(made(Stage::Fresh, 24, 1, 0, 0), starting);
+    count_with(damaged(Stage::Loaded, 12, 2), starting);
+    count_with(made(Stage::NoOrder, 1157, 1, 0, 0), starting);
+    count_with(twice(Stage::Ordered), starting);
+}
+
+// Two that count as loaded, two as ordered, and one with no order.
+fn count_others(starting: [u16; 32]) {
+    count_with(made(Stage::Loaded, 24, 1, 0, 0), starting);
+    count_with(made(Stage::Ordered, 24, 0, 0, 0), starting);
+    count_with(made(Stage::Ordered, 24, 1, 0, 255), starting);
+    count_with(made(Stage::Ordered, 24, 0, 1, 0), starting);
+    count_with(made(Stage::NoOrder, 24, 1, 0, 0), starting);
+}
+
+fn show_counts(name: &[u8], starting: [u16; 32]) {
+    text(b"what each kind counts as, from ");
+    text(name);
+    count_fresh(starting);
+    count_others(starting);
+    end();
+}
+
+fn counts() {
+    show_counts(b"zeros:", [0; 32]);
+    show_counts(b"65535 everywhere:", [65535; 32]);
+    show_counts(b"levels:", levels());
+    show_counts(b"a random table:", drawn(5));
+}
+
+// A case that says that a log has an order.
+fn ordered(log: &[u8], first: u8, second: u8) -> Case {
+    let c = loaded(log);
+    let bytes = c.bytes;
+    let length = c.length;
+    let mut order = [0u8; 32];
+    order[0] = first;
+    order[1] = second;
+    Case {
+        stage: Stage::Ordered,
+        bytes,
+        length,
+        starting: [0; 32],
+        order,
+    }
+}
+
+// Whether keys 2 to 30, which no log here writes, have their levels.
+fn kept(table: [u16; 32], starting: [u16; 32]) -> bool {
+    let mut rest = table;
+    rest[0] = starting[0];
+    rest[1] = starting[1];
+    rest[31] = starting[31];
+    same(rest, starting)
+}
+
+// The line of Table from a starting table: its number, the values of keys 0, 1 and 31, whether the others have their levels, and the case as it was.
+fn show_table(name: &[u8], from: &[u8], c: Case, starting: [u16; 32]) {
+    let held = with_table(c, starting);
+    let mut out = [9u16; 32];
+    let a = held.table(&mut out);
+    let r = a.reply;
+    let after = a.case;
+    text(name);
+    text(from);
+    number(r.number() as u64);
+    value(out[0]);
+    value(out[1]);
+    value(out[31]);
+    yes_no(kept(out, starting));
+    yes_no(same_case(held, after));
+    end();
+}
+
+fn show_tables(name: &[u8], c: Case) {
+    show_table(name, b", from zeros:", c, [0; 32]);
+    show_table(name, b", from 65535 everywhere:", c, [65535; 32]);
+    show_table(name, b", from levels:", c, levels());
+}
+
+// The example; two writers of key 0, in both orders; a transaction that writes the lowest value over the highest level and the other way round.
+fn started() {
+    show_tables(b"says ordered 1 0", made(Stage::Ordered, 24, 1, 0, 0));
+    let two = b"\x02\x00\x02\x00\x00\x01\x00\x00\x01\x01\x01\x00\x01\x00\x05\x00\x01\x00\x06\x00";
+    show_tables(b"key 0 written 5, then 6", ordered(two, 0, 1));
+    show_tables(b"key 0 written 6, then 5", ordered(two, 1, 0));
+    let ends = b"\x01\x00\x02\x00\x00\x02\x00\x00\x01\x00\x00\x00\x01\x1f\xff\xff";
+    show_tables(b"key 0 written 0, key 31 65535", ordered(ends, 0, 0));
+}
+
 fn main() {
     fresh_ones();
     loaded_ones();
     decided_ones();
     lists();
     tables();
+    counts();
+    started();
     text(b"clear gives the fresh case of each kind:");
     yes_no(same_case(damaged(Stage::Ordered, 12, 2).clear(), Case::fresh()));
     yes_no(same_case(made(Stage::NoOrder, 1157, 1, 2, 3).clear(), Case::fresh()));

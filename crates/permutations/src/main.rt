@@ -1,11 +1,12 @@
 // Check on every list of four numbers, against a direct replay, over many small histories of four transactions with three operations each, read-backs
-// among them.
+// among them. For each list the log is loaded beside another random starting table, of which the direct replay knows nothing.
 use samples::at;
 use samples::check_number;
 use samples::lines::end;
 use samples::lines::number;
 use samples::lines::text;
-use samples::loaded;
+use samples::loaded_from;
+use samples::tables::drawn;
 use std::num::wrapping_add_u64;
 
 // ---- histories
@@ -288,13 +289,15 @@ fn told(s: Tally, check: u64, replay: u64) -> Tally {
 // List number k: its four numbers are 0 to 3.
 fn one_list(s: Tally, h: u64, k: u64) -> Tally {
     let log = log_of(h);
+    let starting = drawn(wrapping_add_u64(h << 8, k));
     let list = [
         (k % 4) as u8,
         (k / 4 % 4) as u8,
         (k / 16 % 4) as u8,
         (k / 64 % 4) as u8,
     ];
-    told(s, check_number(loaded(&log), &list), direct(&log, list))
+    let c = loaded_from(&log, &starting);
+    told(s, check_number(c, &list), direct(&log, list))
 }
 
 fn all_lists(s: Tally, h: u64) -> Tally {

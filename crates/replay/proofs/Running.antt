@@ -10,7 +10,7 @@ use lib.Dec.{T, eqb}
 use lib.ListN.{length, getD, set, take, replicate, length-set, getD-replicate}
 use lib.Seq.{getD-set-same, getD-set-other, set-getD, take-suc, take-all}
 use Rattle.model.specs.Lists.{implies, all, any, keep, fold, upTo, place, bit}
-use Rattle.model.specs.History.{Operation, History, start, size, operationsOf, isRead, isWrite, isReadBack, outward, outwardOf, writes, lastWriter, explained, everyReadExplained, stored, replay, finalTable}
+use Rattle.model.specs.History.{Operation, History, start, size, operationsOf, isRead, isWrite, isReadBack, outward, outwardOf, writes, lastWriter, explained, everyReadExplained, stored, replay}
 use Rattle.model.specs.Log.{transactionsIn, countAt, loadNumber, historyOf}
 use Rattle.model.proofs.Basics.{true-eq, false-eq, eq-eqb, ne-eqb, eqb-comm, same?, iff-eq, All-imp, all-upTo-out, all-upTo-in}
 use Rattle.model.proofs.Loaded.{history-size, operationOf, operations-at, loadable-log}
@@ -129,9 +129,9 @@ pub ran-none : (marks : Bool) (b table o : List ℕ) → table ≡ ranBy marks b
 unfolding ranBy
 ran-none marks b table o = refl
 
-pub ran-table : (b o : List ℕ) (i : ℕ) → i ≡ length o → ranBy false b (replicate 32 0) (take i o) ≡ finalTable (historyOf b) o
-unfolding ranBy storedBy finalTable replay stored
-ran-table b o i e = ap (ranBy false b (replicate 32 0)) (take-all i o (omega arith))
+pub ran-table : (b table o : List ℕ) (i : ℕ) → i ≡ length o → ranBy false b table (take i o) ≡ replay (historyOf b) table o
+unfolding ranBy storedBy replay stored
+ran-table b table o i e = ap (ranBy false b table) (take-all i o (omega arith))
 
 -- ---- the last writers
 

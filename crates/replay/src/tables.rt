@@ -1,9 +1,9 @@
-// The transactions of an order, one after another, over a table with a value for each key: the last writer, or the last value written.
+// The transactions of an order, one after another, over a table with a value for each key: the last writer, or the last value, each from what stood there at the start.
 ghost use mathlib.Core.Path.{_≡_};
 ghost use mathlib.Core.Bool.{cond};
 ghost use Prim.Native.Nat.{_<_};
 ghost use lib.Dec.{T};
-ghost use Rattle.model.specs.History.{isOrder, isWrite, everyReadExplained, finalTable};
+ghost use Rattle.model.specs.History.{isOrder, isWrite, everyReadExplained, replay};
 ghost use Rattle.model.specs.Log.{transactionsIn, loadNumber, historyOf};
 ghost use Rattle.log.specs.Reading.{InLog, asOperation};
 ghost use Rattle.replay.specs.Steps.{agreesBy, readsAgree, storedBy};
@@ -92,12 +92,12 @@ pub(crate) fn explains(log: &[u8], order: &[u8]) -> bool
     true
 }
 
-// The table that an order leaves.
-pub fn table(log: &[u8], order: &[u8]) -> [u16; 32]
+// The table that an order leaves, from a starting one.
+pub fn table(log: &[u8], starting: [u16; 32], order: &[u8]) -> [u16; 32]
     requires { ⌜ (loadNumber (now log) ≡ 0) × T (isOrder (transactionsIn (now log)) (now order)) ⌝ }
-    ensures { λ r. ⌜ r ≡ finalTable (historyOf (now (log .entry))) (now (order .entry)) ⌝ }
+    ensures { λ r. ⌜ r ≡ replay (historyOf (now (log .entry))) starting (now (order .entry)) ⌝ }
 {
-    let mut out = [0u16; 32];
+    let mut out = starting;
     let mut i: usize = 0;
     while i < order.len() {
         store(log, false, order[i] as usize, &mut out);

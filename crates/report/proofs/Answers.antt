@@ -8,7 +8,8 @@ use mathlib.Core.Option.{some}
 use lib.Dec.{T, eqb}
 use lib.ListN.{getD}
 use Rattle.model.specs.Lists.{any, bit, each, upTo, wordOf}
-use Rattle.model.specs.History.{History, size, writes, finalTable}
+use Rattle.model.specs.History.{History, size, writes, replay}
+use Rattle.model.specs.Window.{zeros}
 use Rattle.model.proofs.Basics.{iff-eq, eq-T, any-upTo-out, any-upTo-in}
 use Rattle.model.proofs.Words.{bit-word, word-lt, getD-upTo}
 use Rattle.model.proofs.Legal.{writes-small}
@@ -50,6 +51,6 @@ marked-written h few k l =
     ∙ any-word 32 (size h) (λ t. writes h t k) few (λ i t. writes-small h i k t)
 
 -- the text that Judge prints after an order is that of any table of writers that marks the keys written
-pub found-is : (h : History) (o : List ℕ) (w : ℕ → Bool) → ((k : ℕ) → k < 32 → w k ≡ written h k) → foundText o w (finalTable h o) ≡ decidedText h (some o)
+pub found-is : (h : History) (o : List ℕ) (w : ℕ → Bool) → ((k : ℕ) → k < 32 → w k ≡ written h k) → foundText o w (replay h zeros o) ≡ decidedText h (some o)
 unfolding decidedText
-found-is h o w keys = found-same o w (written h) (finalTable h o) keys
+found-is h o w keys = found-same o w (written h) (replay h zeros o) keys

@@ -9,7 +9,8 @@ use borrow.Author.Tests.{eqb-true}
 use lib.Dec.{eqb}
 use lib.ListN.{length, take, length-append}
 use lib.Seq.{take-all}
-use Rattle.model.specs.History.{History, size, finalTable}
+use Rattle.model.specs.History.{History, size, replay}
+use Rattle.model.specs.Window.{zeros}
 use Rattle.model.specs.Log.{historyOf}
 use Rattle.model.specs.Search.{firstLegal}
 use Rattle.model.proofs.Loaded.{loaded, history-size}
@@ -28,7 +29,7 @@ found-length o w table few =
 decided-length : (h : History) (answer : Option (List ℕ)) → firstLegal h ≡ answer → size h ≤ 32 → length (decidedText h answer) ≤ 902
 unfolding decidedText
 decided-length h none e few = omega arith
-decided-length h (some o) e few = found-length o (written h) (finalTable h o) (omega (arith, legal-length h o (first-some h o e .0)))
+decided-length h (some o) e few = found-length o (written h) (replay h zeros o) (omega (arith, legal-length h o (first-some h o e .0)))
 
 pub judge-length : (b : List ℕ) → length (judgeText b) ≤ 902
 unfolding judgeText refusedText

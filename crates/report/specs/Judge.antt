@@ -6,8 +6,9 @@ use mathlib.Core.Option.{Option, none, some}
 use lib.Dec.{eqb, ltb}
 use lib.ListN.{length}
 use Rattle.model.specs.Lists.{any, upTo}
-use Rattle.model.specs.History.{History, size, writes, finalTable}
+use Rattle.model.specs.History.{History, size, writes, replay}
 use Rattle.model.specs.Log.{loadNumber, historyOf}
+use Rattle.model.specs.Window.{zeros}
 use Rattle.model.specs.Polygraph.{constraints}
 use Rattle.model.specs.Search.{firstLegal}
 use Rattle.report.specs.Text.{refusedText, noOrderText, foundText}
@@ -16,10 +17,10 @@ use Rattle.report.specs.Text.{refusedText, noOrderText, foundText}
 unfoldable pub written : History → ℕ → Bool
 written h k = any (λ t. writes h t k) (upTo (size h))
 
--- 'no order', or 'order' and the transaction numbers, then a line for each key written with the value that the order leaves
+-- 'no order', or 'order' and the transaction numbers, then a line for each key written with the value that the order leaves; Judge starts from 32 zeros
 unfoldable pub decidedText : History → Option (List ℕ) → List ℕ
 decidedText h none = noOrderText
-decidedText h (some o) = foundText o (written h) (finalTable h o)
+decidedText h (some o) = foundText o (written h) (replay h zeros o)
 
 -- the number with which Load or Decide refuses the log: Load's, then 14, more than 4,096 constraints in encoding 2
 unfoldable pub judgeNumber : List ℕ → ℕ

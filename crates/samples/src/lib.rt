@@ -1,11 +1,12 @@
-// What the test programs share: a full log to change bytes of, logs with read-backs at the limits, calls with their answers as numbers, and lines of
-// output.
+// What the test programs share: a full log to change bytes of, logs with read-backs at the limits, starting tables, calls with their answers as numbers,
+// and lines of output.
 use checker::Case;
 use checker::Judgement;
 use checker::Stage;
 
 mod backs;
 pub mod lines;
+pub mod tables;
 
 // A byte of a list, or 0 past its end.
 pub fn at(s: &[u8], i: usize) -> u8 {
@@ -112,11 +113,17 @@ pub fn with_byte(log: [u8; 1156], i: usize, x: u8) -> [u8; 1156] {
     out
 }
 
-// The number that Load gives.
-pub fn load_number(c: Case, log: &[u8]) -> u64 {
-    let a = c.load(log);
+// The number that Load gives of a log beside a starting table.
+pub fn load_number_from(c: Case, log: &[u8], starting: &[u16]) -> u64 {
+    let a = c.load(log, starting);
     let r = a.reply;
     r.number() as u64
+}
+
+// The same beside 32 zeros.
+pub fn load_number(c: Case, log: &[u8]) -> u64 {
+    let zeros = [0u16; 32];
+    load_number_from(c, log, &zeros)
 }
 
 // The same of the first n bytes.
@@ -136,11 +143,17 @@ pub fn changed_number(i: usize, x: u8, j: usize, y: u8) -> u64 {
     )
 }
 
-// The case that holds a log.
-pub fn loaded(log: &[u8]) -> Case {
+// The case that holds a log beside a starting table.
+pub fn loaded_from(log: &[u8], starting: &[u16]) -> Case {
     let fresh = Case::fresh();
-    let a = fresh.load(log);
+    let a = fresh.load(log, starting);
     a.case
+}
+
+// The same beside 32 zeros.
+pub fn loaded(log: &[u8]) -> Case {
+    let zeros = [0u16; 32];
+    loaded_from(log, &zeros)
 }
 
 // The case that holds the full log.
@@ -184,8 +197,8 @@ fn stage_number(s: Stage) -> u8 {
     }
 }
 
-// Whether two cases are the same, field by field.
-pub fn same_case(a: Case, b: Case) -> bool {
+// Whether two cases are the same but for the starting tables.
+fn same_rest(a: Case, b: Case) -> bool {
     let s = a.stage;
     let t = b.stage;
     if stage_number(s) != stage_number(t) {
@@ -202,4 +215,11 @@ pub fn same_case(a: Case, b: Case) -> bool {
     let o = a.order;
     let p = b.order;
     check::same(&o, &p)
+}
+
+// Whether two cases are the same, field by field.
+pub fn same_case(a: Case, b: Case) -> bool {
+    let v = a.starting;
+    let w = b.starting;
+    tables::same(v, w) && same_rest(a, b)
 }

@@ -13,7 +13,8 @@ use samples::lines::end;
 use samples::lines::number;
 use samples::lines::text;
 use samples::load_first;
-use samples::load_number;
+use samples::load_number_from;
+use samples::tables::drawn;
 use samples::with_byte;
 use writer::Notes;
 
@@ -69,7 +70,7 @@ fn noted(log: &[u8]) -> Notes {
 
 // ---- comparing
 
-// Whether the first bytes, loaded, are taken, and noted again are the notes.
+// Whether the first bytes, loaded beside a random table, are taken, and noted again are the notes.
 fn loads_as(bytes: &[u8], length: usize, n: Notes) -> bool {
     if length > bytes.len() {
         return false;
@@ -77,7 +78,8 @@ fn loads_as(bytes: &[u8], length: usize, n: Notes) -> bool {
     let log = &bytes[0..length];
     let r = Notes::again(log);
     let again = r.notes;
-    load_number(checker::Case::fresh(), log) == 0 && r.number == 0 && same(again, n)
+    let starting = drawn(length as u64);
+    load_number_from(checker::Case::fresh(), log, &starting) == 0 && r.number == 0 && same(again, n)
 }
 
 // Whether the notes are written as the first bytes of the log and what is written loads as the notes, into a buffer of just that length and one that is longer;

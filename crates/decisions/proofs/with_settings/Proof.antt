@@ -10,8 +10,8 @@ Inv-loop log x out₀ c s₀ out s = (s ≤ 6)
 abbrev μ-loop : tie.MeasureT-loop
 μ-loop log x out₀ c s₀ out s = 6 - s
 
-loaded-requires : tie.Need-loaded-requires Inv-loop μ-loop
-loaded-requires c κs = search needs
+held-requires : tie.Need-held-requires Inv-loop μ-loop
+held-requires c κs = search needs
 
 loop-holds : tie.Need-loop-holds Inv-loop μ-loop
 loop-holds c = search needs
@@ -40,7 +40,7 @@ with-settings-spec =
     (tie.spec
     Inv-loop
     μ-loop
-    loaded-requires
+    held-requires
     loop-holds
     setting-agrees-requires
     with-decision-requires

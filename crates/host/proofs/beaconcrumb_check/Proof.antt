@@ -1,5 +1,6 @@
 -- `host::beaconcrumb_check` meets its contract. Assumes nothing.
 use mathlib.Core.Path.{ap, _∙_}
+use Rattle.model.specs.Window.{fromZeros}
 use Rattle.host.proofs.Taking.{refused-number, loads-it, where-taken}
 use Rattle.checker.specs.Calls.{checking}
 use Rattle.host.specs.Codes.{judgementCode, checkCode}
@@ -22,7 +23,7 @@ cast-refused c = search needs
 
 returns : tie.Need-returns
 unfolding checkCode
-returns c = refused-number (c .before .before .before .before .before .args .log .now) _ _ (c .before .number .ensures) (c .before .before .loaded .ensures .0) _ (c .if1 .taken)
+returns c = refused-number (fromZeros (c .before .before .before .before .before .args .log .now)) _ _ (c .before .number .ensures) (c .before .before .loaded .ensures .0) _ (c .if1 .taken)
 
 check-requires : tie.Need-check-requires
 check-requires c κs = search needs
@@ -37,8 +38,8 @@ returns-2 c =
     let number-is = c .before .before .before .before .number .ensures in
     let loads = c .before .before .before .before .before .loaded .ensures in
     let z = c .before .before .before .if1 .left in
-    where-taken (a .log .now) _ _ number-is (loads .0) _ _ _ z
-    (c .judged .ensures ∙ ap (λ r. judgementCode (r .judgement)) (c .before .check .ensures .0) ∙ ap (λ k. judgementCode (checking k (a .order .now) .judgement)) (loads .1 (loads-it (a .log .now) _ _ number-is (loads .0) z)))
+    where-taken (fromZeros (a .log .now)) _ _ number-is (loads .0) _ _ _ z
+    (c .judged .ensures ∙ ap (λ r. judgementCode (r .judgement)) (c .before .check .ensures .0) ∙ ap (λ k. judgementCode (checking k (a .order .now) .judgement)) (loads .1 (loads-it (fromZeros (a .log .now)) _ _ number-is (loads .0) z)))
 
 pub beaconcrumb-check-spec : {M : Type 1} → statement M
 beaconcrumb-check-spec =

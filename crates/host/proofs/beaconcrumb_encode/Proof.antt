@@ -1,6 +1,7 @@
 -- `host::beaconcrumb_encode` meets its contract. Assumes nothing.
 use mathlib.Core.Path.{ap, _∙_}
 use lib.ListN.{length}
+use Rattle.model.specs.Window.{fromZeros}
 use Rattle.host.proofs.Taking.{where-refused, refused-number, loads-it, where-taken}
 use Rattle.checker.specs.Encodings.{encodeAnswer}
 use Rattle.host.specs.Codes.{polygraphCode, polygraphAfter, encodeCode, encodeAfter}
@@ -26,7 +27,7 @@ returns c =
     let a = c .before .before .before .before .before .args in
     let is = c .before .number .ensures in
     let loads = c .before .before .loaded .ensures .0 in
-    (refused-number (a .log .now) _ _ is loads _ (c .if1 .taken), where-refused (a .log .now) _ _ is loads _ (a .out .now) (c .if1 .taken))
+    (refused-number (fromZeros (a .log .now)) _ _ is loads _ (c .if1 .taken), where-refused (fromZeros (a .log .now)) _ _ is loads _ (a .out .now) (c .if1 .taken))
 
 encoded-requires : tie.Need-encoded-requires
 encoded-requires c κs = search needs
@@ -42,9 +43,9 @@ returns-2 c =
     let loads = c .before .before .before .before .before .before .before .loaded .ensures in
     let z = c .before .before .before .before .before .if1 .left in
     let w = c .before .before .encoded .ensures in
-    let k = loads .1 (loads-it (a .log .now) _ _ is (loads .0) z) in (
-      where-taken (a .log .now) _ _ is (loads .0) _ _ _ z (w .0 ∙ ap (λ x. polygraphCode (encodeAnswer x (a .encoding) (a .pruning) 4096 32) (length (a .out .now))) k),
-      where-taken (a .log .now) _ _ is (loads .0) _ _ _ z (w .1 ∙ ap (λ x. polygraphAfter x (a .encoding) (a .pruning) (a .out .now)) k),
+    let k = loads .1 (loads-it (fromZeros (a .log .now)) _ _ is (loads .0) z) in (
+      where-taken (fromZeros (a .log .now)) _ _ is (loads .0) _ _ _ z (w .0 ∙ ap (λ x. polygraphCode (encodeAnswer x (a .encoding) (a .pruning) 4096 32) (length (a .out .now))) k),
+      where-taken (fromZeros (a .log .now)) _ _ is (loads .0) _ _ _ z (w .1 ∙ ap (λ x. polygraphAfter x (a .encoding) (a .pruning) (a .out .now)) k),
     )
 
 pub beaconcrumb-encode-spec : {M : Type 1} → statement M

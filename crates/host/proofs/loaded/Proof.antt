@@ -1,5 +1,6 @@
 -- `host::loaded` meets its contract. Assumes nothing.
 use mathlib.Core.Path.{ap, _∙_}
+use Rattle.model.specs.Window.{fromZeros}
 use Rattle.checker.specs.Calls.{loading}
 use Rattle.lender.proofs.Fresh.{fresh-number, fresh-case}
 use borrow.Author.Needs.{needs}
@@ -11,15 +12,18 @@ use Rattle.checker.proofs.Case.fresh.Reads as fresh-reads
 fresh-requires : tie.Need-fresh-requires
 fresh-requires c κs = search needs
 
+slice-aggregate-load : tie.Need-slice-aggregate-load
+slice-aggregate-load c = search needs
+
 load-requires : tie.Need-load-requires
 load-requires c κs = search needs
 
 returns : tie.Need-returns
 unfolding loading
 returns c =
-    let log = c .before .before .before .args .log .now in
-    let fresh = c .before .fresh .ensures in
-    (c .load .ensures .1 ∙ fresh-number _ log fresh, λ z. ap (λ r. r .case) (c .load .ensures .0) ∙ fresh-case _ log fresh z)
+    let w = fromZeros (c .before .before .before .before .args .log .now) in
+    let fresh = c .before .before .fresh .ensures in
+    (c .load .ensures .1 ∙ fresh-number _ w fresh, λ z. ap (λ r. r .case) (c .load .ensures .0) ∙ fresh-case _ w fresh z)
 
 pub loaded-spec : {M : Type 1} → statement M
-loaded-spec = tie.close (tie.spec fresh-requires load-requires returns)
+loaded-spec = tie.close (tie.spec fresh-requires slice-aggregate-load load-requires returns)

@@ -6,6 +6,7 @@ use lib.ListN.{length, take}
 use lib.Seq.{length-take-le}
 use Rattle.model.specs.History.{isOrder}
 use Rattle.model.specs.Log.{transactionsIn}
+use Rattle.model.specs.Window.{window}
 use Rattle.host.specs.Codes.{orderedCase}
 use Rattle.host.proofs.Writing.{table-short}
 use Rattle.host.proofs.Deciding.{no-room, written}
@@ -20,7 +21,7 @@ use Rattle.replay.proofs.tables.table.Reads as table-reads
 returns : tie.Need-returns
 returns c =
     let a = c .before .before .before .before .args in
-    table-short (orderedCase (a .log .now) (a .t2)) (a .order .now) (a .table .now) (c .if1 .taken)
+    table-short (orderedCase (window (a .log .now) (a .starting)) (a .t3)) (a .order .now) (a .table .now) (c .if1 .taken)
 
 transactions-requires : tie.Need-transactions-requires
 transactions-requires c κs = search needs
@@ -28,7 +29,7 @@ transactions-requires c κs = search needs
 returns-2 : tie.Need-returns-2
 returns-2 c =
     let s = c .before .before .before .before .before .before in
-    no-room (s .args .log .now) (s .pre .0) (s .args .t2) (s .pre .1) (s .args .order .now) (s .args .table .now) (c .before .before .if1 .left) _ (c .before .transactions .ensures .0) (c .if2 .taken)
+    no-room (window (s .args .log .now) (s .args .starting)) (s .pre .0) (s .args .t3) (s .pre .1) (s .args .order .now) (s .args .table .now) (c .before .before .if1 .left) _ (c .before .transactions .ensures .0) (c .if2 .taken)
 
 slice-aggregate-copy-bytes : tie.Need-slice-aggregate-copy-bytes
 slice-aggregate-copy-bytes c = search needs
@@ -41,13 +42,13 @@ array-share-prefix-numbers c = search needs
 
 slice-aggregate-table : tie.Need-slice-aggregate-table
 slice-aggregate-table c =
-    let long : length (c .before .before .before .before .before .before .before .before .before .before .before .before .args .t2) ≡ 32 = search needs in
+    let long : length (c .before .before .before .before .before .before .before .before .before .before .before .before .args .t3) ≡ 32 = search needs in
     sym (length-take-le _ _ (omega (arith, c .before .before .before .before .before .before .before .transactions .ensures .1)))
 
 table-requires : tie.Need-table-requires
 table-requires c κs =
     let s = c .before .before .before .before .before .before .before .before .before .before .before .before in
-    (s .pre .0, subst (λ n. T (isOrder (transactionsIn (s .args .log .now)) (take n (s .args .t2)))) (sym (c .before .before .before .before .before .before .before .transactions .ensures .0)) (s .pre .1))
+    (s .pre .0, subst (λ n. T (isOrder (transactionsIn (s .args .log .now)) (take n (s .args .t3)))) (sym (c .before .before .before .before .before .before .before .transactions .ensures .0)) (s .pre .1))
 
 put-values-requires : tie.Need-put-values-requires
 put-values-requires c κs = search needs
@@ -61,7 +62,7 @@ same-length-2 c = search needs
 returns-3 : tie.Need-returns-3
 returns-3 c =
     let s = c .before .before .before .before .before .before .before .before .before .before .before .before .before .before .before .before .before .before in
-    written (s .args .log .now) (s .pre .0) (s .args .t2) (s .pre .1) (s .args .order .now) (s .args .table .now) (c .before .before .before .before .before .before .before .before .before .before .before .before .before .before .if1 .left) _ (c .before .before .before .before .before .before .before .before .before .before .before .before .before .transactions .ensures .0) _ _ _
+    written (window (s .args .log .now) (s .args .starting)) (s .pre .0) (s .args .t3) (s .pre .1) (s .args .order .now) (s .args .table .now) (c .before .before .before .before .before .before .before .before .before .before .before .before .before .before .if1 .left) _ (c .before .before .before .before .before .before .before .before .before .before .before .before .before .transactions .ensures .0) _ _ _
     (c .before .before .before .before .before .before .before .before .before .before .before .before .if2 .left) (c .before .before .before .before .before .before .before .before .before .copy-bytes .ensures) (c .before .before .before .before .before .table .ensures) (c .before .before .put-values .ensures)
 
 pub write-spec : {M : Type 1} → statement M

@@ -1,5 +1,7 @@
 -- `judging::judge` meets its contract. Assumes nothing.
 use Rattle.lender.proofs.Fresh.{fresh-number, fresh-case}
+use Rattle.model.specs.Window.{fromZeros}
+use Rattle.model.proofs.Windows.{number-of-zeros}
 use Rattle.checker.specs.Calls.{loading}
 use Rattle.checker.specs.Decisions.{deciding}
 use Rattle.report.proofs.Texts.{printed}
@@ -13,6 +15,9 @@ use Rattle.judging.proofs.judge.Tie as tie
 fresh-requires : tie.Need-fresh-requires
 fresh-requires c κs = search needs
 
+slice-aggregate-load : tie.Need-slice-aggregate-load
+slice-aggregate-load c = search needs
+
 load-requires : tie.Need-load-requires
 load-requires c κs = search needs
 
@@ -24,7 +29,7 @@ refused-text-requires c κs = search needs
 
 returns : tie.Need-returns
 returns c =
-    let number = c .before .before .before .number .ensures ∙ c .before .before .before .before .load .ensures .1 ∙ fresh-number _ _ (c .before .before .before .before .before .fresh .ensures) in
+    let number = c .before .before .before .number .ensures ∙ c .before .before .before .before .load .ensures .1 ∙ fresh-number _ (fromZeros _) (c .before .before .before .before .before .before .fresh .ensures) ∙ number-of-zeros _ in
     let some = c .before .before .if1 .taken in
     printed (c .refused-text .ensures) (sym (refused-only _ _ (number-load _ _ (sym number) some) some))
 
@@ -34,10 +39,11 @@ decide-requires c κs = search needs
 decided-requires : tie.Need-decided-requires
 unfolding loading
 decided-requires c κs =
-    let fresh = c .before .before .before .before .before .before .fresh .ensures in
+    let fresh = c .before .before .before .before .before .before .before .fresh .ensures in
     let load = c .before .before .before .before .before .load .ensures in
-    let loads = sym (c .before .before .before .before .number .ensures ∙ load .1 ∙ fresh-number _ _ fresh) ∙ c .before .before .before .if1 .left in
-    (loads, c .before .decide .ensures ∙ ap (λ k. deciding k 2 1 4096) (ap (λ r. r .case) (load .0) ∙ fresh-case _ _ fresh loads), omega arith)
+    let b = c .before .before .before .before .before .before .before .before .before .args .log .now in
+    let loads = sym (c .before .before .before .before .number .ensures ∙ load .1 ∙ fresh-number _ (fromZeros b) fresh ∙ number-of-zeros b) ∙ c .before .before .before .if1 .left in
+    (loads, c .before .decide .ensures ∙ ap (λ k. deciding k 2 1 4096) (ap (λ r. r .case) (load .0) ∙ fresh-case _ (fromZeros b) fresh (number-of-zeros b ∙ loads)), omega arith)
 
 returns-2 : tie.Need-returns-2
 returns-2 c = printed (c .decided .ensures) refl
@@ -47,6 +53,7 @@ judge-spec =
     tie.close
     (tie.spec
     fresh-requires
+    slice-aggregate-load
     load-requires
     number-requires
     refused-text-requires
