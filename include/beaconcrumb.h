@@ -14,7 +14,7 @@
  * In a transaction a key may be read, then written, then read back: a read after the write names its own transaction and is explained by that write.
  *
  * Numbers: 0 done; 1 to 11, 34 and 35 the log is refused, as listed below; 12 encoding over 2 or pruning over 1; 13 the order is not every number below T once;
- * 14 more than 4,096 constraints before pruning; 25 a buffer is too short; 36 the starting table (start) is not 64 bytes; 255 no, as said below.
+ * 25 a buffer is too short; 36 the starting table (start) is not 64 bytes; 255 no, as said below.
  *
  * The numbers of a refused log, in the order of the tests: first the header and the length; then entry by entry, in each 4 before 5; then 6; then body by
  * body, in each 7, 8, 9, then 10 or 34, then 11. The first test that fails gives its number, and all before it have passed. That doesn't say that the
@@ -58,8 +58,9 @@ extern "C" {
  * Takes the log, an encoding (0 plain, 1 joined, 2 chained) and pruning (0 or 1): where they are taken they change the time and
  * never the answer.
  * Gives 0 and writes the order, T numbers of one byte, and the table, 32 values by key of two bytes, low byte first.
- * Gives 255 where no legal order exists, and a number of a refused log, 12, 14 or 25 (an order shorter than T bytes, a table shorter than 64) where it
- * refuses: it tests the log, then 12, 14, 255, 25. So a short buffer is refused only where there is an order to write.
+ * Gives 255 where no legal order exists, and a number of a refused log, 12 or 25 (an order shorter than T bytes, a table shorter than 64) where it
+ * refuses: it tests the log, then 12, 255, 25. So a short buffer is refused only where there is an order to write. With 32 bytes for the order and 64 for
+ * the table 25 is never given.
  * Unless it gives 0 nothing is written; bytes behind the T and behind the 64 are never written.
  */
 uint32_t beaconcrumb_decide(const uint8_t *log, size_t log_len, uint8_t encoding, uint8_t pruning,
@@ -81,8 +82,8 @@ uint32_t beaconcrumb_decide_from(const uint8_t *log, size_t log_len, const uint8
  * Writes the polygraph of a log in a setting: the known edges and the constraints that are left.
  * Gives 0 and writes, low bytes first: the count of constraints left (2 bytes); the 32 row words (4 bytes each; bit v of word u is the edge
  * from u to v); and for each constraint left, in list order, 10 bytes: side A's sources as a mask (4) and target (1), then side B's.
- * So out needs 130 bytes and 10 for each constraint left: 41,090 are always enough.
- * Gives a number of a refused log, 12, 14 or 25 (out is shorter than that) where it refuses, tested in that order. Unless it gives 0 nothing is written;
+ * So out needs 130 bytes and 10 for each constraint left: 41,090 are always enough, as no log that is taken has more than 4,096 constraints.
+ * Gives a number of a refused log, 12 or 25 (out is shorter than that) where it refuses, tested in that order. Unless it gives 0 nothing is written;
  * bytes behind are never written.
  */
 uint32_t beaconcrumb_encode(const uint8_t *log, size_t log_len, uint8_t encoding, uint8_t pruning,

@@ -1,18 +1,22 @@
 -- Replies, judgements and settings by their tests. Assumes nothing.
 use Prim.Native.Nat.{ℕ, zero, suc, _≤_}
 use native.Mathlib.Omega.{arith}
-use mathlib.Core.Path.{_≡_, refl, sym, ap, ap₂}
-use mathlib.Core.Logic.{_≢_}
+use mathlib.Core.Path.{_≡_, refl, sym, ap, ap₂, _∙_}
+use mathlib.Core.Logic.{_⊎_, inl, inr, _≢_}
 use mathlib.Core.Bool.{Bool, true, false, not, cond, _&&_}
 use mathlib.Core.List.{List}
 use lib.Dec.{T, eqb, ltb, eqb→eq, nltb→le, eqb·suc-zero}
-use borrow.Author.Tests.{eq-eqb, ne-eqb}
+use lib.ListN.{length}
+use borrow.Author.Tests.{eq-eqb, ne-eqb, le-ltb}
 use Rattle.model.specs.History.{isOrder}
+use Rattle.model.specs.Log.{loadNumber, historyOf}
+use Rattle.model.specs.Polygraph.{constraints}
+use Rattle.model.proofs.Counting.{constraints-log}
 use Rattle.answers.specs.declared.Reply.the-variants.{Taken, Refused as RefusedReply}
 use Rattle.answers.specs.declared.Judgement.the-variants.{Legal, Illegal, Refused}
 use Rattle.answers.specs.Numbers.{numberOf, replyOf, judgementNumber, judgementYes, judgementOf}
 use Rattle.answers.specs.Stages.{orderRefusal}
-use Rattle.answers.specs.Settings.{settingRefusal, placesRefusal}
+use Rattle.answers.specs.Settings.{settingRefusal, placesRefusal, polygraphRefusal}
 
 -- ---- replies
 
@@ -72,6 +76,16 @@ module _ (n : ℕ) (o : List ℕ) (y : Bool) where
 
 -- ---- settings
 
+-- a setting is taken, or refused with 12
+pub setting-either : (e pruning : ℕ) → (settingRefusal e pruning ≡ 0) ⊎ (settingRefusal e pruning ≡ 12)
+unfolding settingRefusal
+setting-either e pruning = go (ltb 2 e) (ltb 1 pruning)
+  where
+    go : (a b : Bool) → let n : ℕ = cond a 12 (cond b 12 0) in (n ≡ 0) ⊎ (n ≡ 12)
+    go true b = inr refl
+    go false true = inr refl
+    go false false = inl refl
+
 pub setting-zero : (e pruning : ℕ) → settingRefusal e pruning ≡ 0 → e ≤ 2
 unfolding settingRefusal
 setting-zero e pruning = go (ltb 2 e) (λ t. nltb→le 2 e t)
@@ -89,20 +103,30 @@ pruning-zero e pruning = go (ltb 2 e) (ltb 1 pruning) (λ t. nltb→le 1 pruning
     go false true f z = absurd (omega arith)
     go false false f z = f tt
 
-pub places-few : (n places words : ℕ) → placesRefusal n places words ≡ 0 → n ≤ 4096
-unfolding placesRefusal
-places-few n places words = go (ltb 4096 n) (λ t. nltb→le 4096 n t)
-  where
-    go : (a : Bool) → (T (not a) → n ≤ 4096) → _≡_ {A = ℕ} (cond a 14 (cond (ltb places n) 25 (cond (ltb words 32) 25 0))) 0 → n ≤ 4096
-    go true f z = absurd (omega arith)
-    go false f z = f tt
-
 pub places-zero : (n places words : ℕ) → placesRefusal n places words ≡ 0 → (n ≤ places) × (32 ≤ words)
 unfolding placesRefusal
-places-zero n places words = go (ltb 4096 n) (ltb places n) (ltb words 32) (λ t. nltb→le places n t) (λ t. nltb→le words 32 t)
+places-zero n places words = go (ltb places n) (ltb words 32) (λ t. nltb→le places n t) (λ t. nltb→le words 32 t)
   where
-    go : (a b c : Bool) → (T (not b) → n ≤ places) → (T (not c) → 32 ≤ words) → _≡_ {A = ℕ} (cond a 14 (cond b 25 (cond c 25 0))) 0 → (n ≤ places) × (32 ≤ words)
-    go true b c f g z = absurd (omega arith)
-    go false true c f g z = absurd (omega arith)
-    go false false true f g z = absurd (omega arith)
-    go false false false f g z = (f tt, g tt)
+    go : (a b : Bool) → (T (not a) → n ≤ places) → (T (not b) → 32 ≤ words) → _≡_ {A = ℕ} (cond a 25 (cond b 25 0)) 0 → (n ≤ places) × (32 ≤ words)
+    go true b f g z = absurd (omega arith)
+    go false true f g z = absurd (omega arith)
+    go false false f g z = (f tt, g tt)
+
+pub places-enough : (n places words : ℕ) → n ≤ places → 32 ≤ words → placesRefusal n places words ≡ 0
+unfolding placesRefusal
+places-enough n places words l m = ap₂ {C = ℕ} (λ (a b : Bool). cond a 25 (cond b 25 0)) (le-ltb places n l) (le-ltb words 32 m)
+
+-- Of a log that Load takes 4,096 places are always enough: the setting alone can be refused.
+pub enough-for-a-log : (b : List ℕ) → loadNumber b ≡ 0 → (e pruning places words : ℕ) → 4096 ≤ places → 32 ≤ words
+    → polygraphRefusal (historyOf b) e pruning places words ≡ settingRefusal e pruning
+enough-for-a-log b taken e pruning places words l m = go (eqb setting 0) (λ t. eqb→eq setting 0 t)
+  where
+    setting : ℕ
+    setting = settingRefusal e pruning
+
+    n : ℕ
+    n = length (constraints (historyOf b) e)
+
+    go : (t : Bool) → (T t → setting ≡ 0) → cond t (placesRefusal n places words) setting ≡ setting
+    go true f = places-enough n places words (omega (arith, constraints-log b taken e)) m ∙ sym (f tt)
+    go false f = refl

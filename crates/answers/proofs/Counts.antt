@@ -1,27 +1,18 @@
--- A count of constraints fits in 16 bits wherever one is carried: before the test of 14, and after it. Assumes nothing.
---     before-the-test      what listing gives in the end.        never-past-4096      all that listing, pruning and search hand on after the test
-use Prim.Native.Nat.{ℕ, _*_, _^_, _≤_, _<_}
+-- A count of constraints never passes 4,096, so 16 bits hold it, wherever listing, pruning and search carry one. (What listing counts up on its way has room, as
+-- its functions ask it: `proofs/Counts` of listing.) Assumes nothing.
+use Prim.Native.Nat.{ℕ, _≤_}
 use native.Mathlib.Omega.{arith}
-use mathlib.Core.List.{List}
 use Rattle.model.specs.Lists.{All}
-use Rattle.model.specs.History.{History}
 use Rattle.model.specs.Lent.{encodedCount}
+use Rattle.model.proofs.Basics.{All-imp}
+use Rattle.model.proofs.Demands.{at-most-4096-constraints}
 use Rattle.model.proofs.Pruning.{polygraph-length}
-use Rattle.listing.specs.Listing.{Chosen}
-use Rattle.listing.proofs.Counts.{pairs-fit}
 use Rattle.pruning.specs.declared.Place.{Place}
 use Rattle.pruning.specs.Passes.{PlaceWithin}
 use Rattle.pruning.proofs.Counts.{HitWithin, begin-counts, skim-counts, after-counts, pass-counts, settled-counts}
 use Rattle.search.specs.Steps.{Turning}
 use Rattle.search.proofs.Counts.{turn-first, turn-hit, turn-again, word-counts, open-next}
-use Rattle.answers.specs.Counts.{Carried, many, standing, skimmed, turning, found, counts, Tested, Handed, lists, begins, skims, goes-on, prunes, writes, prunes-once, settles, turns, hits, turns-behind, turns-again, opens-word, opens, opens-behind, chooses}
-use Rattle.answers.proofs.Answering.{places-few}
-
--- Before the test a count is at most what 32 keys of 32 by 32 pairs can give, and 16 bits hold that.
-pub before-the-test : (h : History) (e : ℕ) (t ks : List ℕ) (n : ℕ) → Chosen h e t ks n → (n ≤ 32 * (32 * 32)) × (32 * (32 * 32) < 2 ^ 16)
-before-the-test h e t ks n c = (c .low, pairs-fit)
-
--- ---- after it
+use Rattle.answers.specs.Counts.{Carried, many, standing, skimmed, turning, found, counts, Listed, Handed, lists, begins, skims, goes-on, prunes, writes, prunes-once, settles, turns, hits, turns-behind, turns-again, opens-word, opens, opens-behind, chooses}
 
 -- what is known of the counts of a state: they lie below n, each in its order
 abbrev Bounded : ℕ → Carried → Type 0
@@ -54,16 +45,22 @@ module _ (n : ℕ) where
   bounded _ (opens-behind l m from r s k h) = omega (arith, bounded _ s, open-next l m from r k h .1)
   bounded _ (chooses w c l m r s k) = omega (arith, bounded _ s, k .top)
 
-  few : n ≤ 4096 → (s : Carried) → Bounded n s → All (λ (m : ℕ). m ≤ 4096) (counts s)
+  few : (s : Carried) → Bounded n s → All (λ (m : ℕ). m ≤ n) (counts s)
   unfolding counts
-  few l (many m) b = (omega arith, tt)
-  few l (standing p) b = (omega (arith, b .high, b .top), (omega (arith, b .low, b .high, b .top), (omega (arith, b .top), tt)))
-  few l (skimmed p h) b = (omega (arith, b .1 .high, b .0 .top), (omega (arith, b .1 .behind, b .1 .high, b .0 .top), (omega (arith, b .0 .top), tt)))
-  few l (turning m i stop again) b =
+  few (many m) b = (b, tt)
+  few (standing p) b = (omega (arith, b .high, b .top), (omega (arith, b .low, b .high, b .top), (omega (arith, b .top), tt)))
+  few (skimmed p h) b = (omega (arith, b .1 .high, b .0 .top), (omega (arith, b .1 .behind, b .1 .high, b .0 .top), (omega (arith, b .0 .top), tt)))
+  few (turning m i stop again) b =
       let t = b .1 in
       (omega (arith, b .0), (omega (arith, b .0, t .from, t .stops), (omega (arith, b .0, t .stops), (omega (arith, b .0, t .behind, t .from, t .stops), tt))))
-  few l (found i) b = (omega arith, tt)
+  few (found i) b = (b, tt)
 
-  -- After the test no count passes 4,096, in anything that listing, pruning and search hand on.
-  pub never-past-4096 : Tested n → (s : Carried) → Handed n s → All (λ (m : ℕ). m ≤ 4096) (counts s)
-  never-past-4096 p s handed = few (places-few n (p .places) (p .words) (p .tested)) s (bounded s handed)
+  -- From the listing on no count passes the count of the constraints that are listed, in anything that listing, pruning and search hand on ..
+  pub never-past-what-is-listed : (s : Carried) → Handed n s → All (λ (m : ℕ). m ≤ n) (counts s)
+  never-past-what-is-listed s handed = few s (bounded s handed)
+
+  -- .. and of a log that Load takes that is at most 4,096.
+  pub never-past-4096 : Listed n → (s : Carried) → Handed n s → All (λ (m : ℕ). m ≤ 4096) (counts s)
+  never-past-4096 l s handed =
+      All-imp (λ (m : ℕ). m ≤ n) (λ (m : ℕ). m ≤ 4096) (λ m k. omega (arith, l .count, at-most-4096-constraints (l .log) (l .taken) (l .encoding))) (counts s)
+      (never-past-what-is-listed s handed)

@@ -26,7 +26,7 @@ use Rattle.decision.specs.Answer.{SettledIn, firstAnswer}
 use Rattle.answers.specs.declared.deciding.Outcome.{Outcome}
 use Rattle.answers.specs.Settings.{settingRefusal, placesRefusal, polygraphRefusal}
 use Rattle.answers.specs.Finding.{refusedOutcome, Finds}
-use Rattle.answers.proofs.Answering.{setting-zero, pruning-zero, places-few, places-zero}
+use Rattle.answers.proofs.Answering.{setting-zero, pruning-zero, places-zero}
 
 -- ---- pruning, by its number
 
@@ -93,12 +93,9 @@ module _ (h : History) (e pruning places : ℕ) (listed : Bool) (t ks : List ℕ
 
 module _ (h : History) (e pruning places : ℕ) (listed : Bool) (used : ℕ) (same : (listed ≡ true → used ≡ pruning) × ((used ≡ pruning) ⊎ (used ≡ 0))) (t ks ls rs : List ℕ) (n left : ℕ) (closed : List ℕ) (plan : Planned h e t ks rs n)
     (zero : settingRefusal e pruning ≡ 0) (room : placesRefusal n places 32 ≡ 0) (within : left ≤ n) (kept : PrunedTo (settled used (record { known = rs; choices = itemsBy t ks n })) t ls left closed) where
-  few : n ≤ 4096
-  few = places-few n places 32 room
-
   settled-is : settled used (record { known = rs; choices = itemsBy t ks n }) ≡ polygraph h e used
   unfolding settled pruned polygraph
-  settled-is = ap₂ (λ (g : List ℕ) (xs : List Constraint). settled used (record { known = g; choices = xs })) (plan .rows-are) (plan .chosen-are .items-are few)
+  settled-is = ap₂ (λ (g : List ℕ) (xs : List Constraint). settled used (record { known = g; choices = xs })) (plan .rows-are) (plan .chosen-are .items-are)
 
   used-items : itemsBy t ls left ≡ polygraph h e used .choices
   used-items = kept .choices-are ∙ ap (λ (p : Polygraph). p .choices) settled-is
@@ -112,7 +109,6 @@ module _ (h : History) (e pruning places : ℕ) (listed : Bool) (used : ℕ) (sa
     pruning = used;
     low = let k = setting-zero e pruning zero in omega arith;
     once = ⊎-elim (λ (u : used ≡ pruning). omega (arith, pruning-zero e pruning zero)) (λ (u : used ≡ 0). omega arith) (same .1);
-    few = omega (arith, few);
     items-are = used-items;
     rows-are = kept .rows-are ∙ ap (λ (p : Polygraph). reach (p .known)) settled-is;
   }
@@ -126,7 +122,7 @@ module _ (h : History) (e pruning places : ℕ) (listed : Bool) (used : ℕ) (sa
     count-is = λ z. plan .chosen-are .count-is;
     left-is = λ z l. sym (items-length t ls left) ∙ ap length (items l);
     items-are = λ z. items;
-    few = few;
+    few = plan .chosen-are .low;
     fits = places-zero n places 32 room .0;
     within = within;
     none = λ f. absurd (f refl);

@@ -1,15 +1,16 @@
--- The counts of constraints that listing, pruning and search hand on, once the test of 14 is passed. Assumes nothing.
+-- The counts of constraints that listing, pruning and search hand on. Assumes nothing.
 --     Carried          what one function hands to another, as far as it counts constraints; of `search::prune`, `next_choice` and `order::lighter` what a turn hands to the next.        counts           the counts in it
---     Tested n         n constraints are listed, by `encoding::prepare`, and pass the test, by `places_refusal`
+--     Listed n         n constraints are listed of a log that Load takes, by `encoding::prepare`
 --     Handed n         what comes of them, step by step. A step from function to function asks what the function's contract says; one from turn to turn is the code's, and the loop's proof cites its law.
 use Prim.Native.Nat.{ℕ, _+_, _*_, _-_, _<_}
 use mathlib.Core.Path.{_≡_}
 use mathlib.Core.List.{List, [], _∷_}
+use lib.ListN.{length}
 use Rattle.model.specs.declared.Constraint.{Constraint}
 use Rattle.model.specs.History.{History}
-use Rattle.model.specs.Polygraph.{pass}
+use Rattle.model.specs.Log.{loadNumber, historyOf}
+use Rattle.model.specs.Polygraph.{constraints, pass}
 use Rattle.listing.specs.Candidates.{itemsBy}
-use Rattle.listing.specs.Listing.{Chosen}
 use Rattle.pruning.specs.declared.Place.{Place}
 use Rattle.pruning.specs.declared.Hit.{Hit}
 use Rattle.pruning.specs.declared.Pruned.{Pruned}
@@ -17,7 +18,6 @@ use Rattle.pruning.specs.Numbers.{PrunedTo}
 use Rattle.pruning.specs.Passes.{firstPlace, nextPlace, settled, Skimmed, Pruning}
 use Rattle.encoding.specs.Writing.{Planned, Encoded}
 use Rattle.search.specs.Steps.{NextOpen, NextHit, NextChoice}
-use Rattle.answers.specs.Settings.{placesRefusal}
 
 pub data Carried : Type 0 where
   -- how many constraints there are, or are left
@@ -37,15 +37,11 @@ counts (skimmed p h) = h .at ∷ h .kept ∷ p .end ∷ []
 counts (turning m i stop again) = m ∷ i ∷ stop ∷ again ∷ []
 counts (found i) = i ∷ []
 
-pub record Tested (n : ℕ) : Type 0 where
-  pub history : History
+pub record Listed (n : ℕ) : Type 0 where
+  pub log : List ℕ
+  pub taken : loadNumber log ≡ 0
   pub encoding : ℕ
-  pub tables : List ℕ
-  pub numbers : List ℕ
-  pub places : ℕ
-  pub words : ℕ
-  pub listed : Chosen history encoding tables numbers n
-  pub tested : placesRefusal n places words ≡ 0
+  pub count : n ≡ length (constraints (historyOf log) encoding)
 
 pub data Handed (n : ℕ) : Carried → Type 0 where
   -- what `encoding::prepare` gives, to all that follow

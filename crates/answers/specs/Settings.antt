@@ -10,11 +10,11 @@ use Rattle.model.specs.Polygraph.{constraints}
 unfoldable pub settingRefusal : ℕ → ℕ → ℕ
 settingRefusal e pruning = cond (ltb 2 e) 12 (cond (ltb 1 pruning) 12 0)
 
--- 14 more than 4,096 constraints before pruning; 25 a lent list too short: fewer places than constraints before pruning, then 32 row words
+-- 25 a lent list too short: fewer places than constraints before pruning, then 32 row words
 unfoldable pub placesRefusal : ℕ → ℕ → ℕ → ℕ
-placesRefusal count places words = cond (ltb 4096 count) 14 (cond (ltb places count) 25 (cond (ltb words 32) 25 0))
+placesRefusal count places words = cond (ltb places count) 25 (cond (ltb words 32) 25 0)
 
--- of a history, in a setting and for lists of so many places: 12, then 14 and 25
+-- of a history, in a setting and for lists of so many places: 12, then 25
 abbrev pub polygraphRefusal : History → ℕ → ℕ → ℕ → ℕ → ℕ
 polygraphRefusal h e pruning places words =
     cond (eqb (settingRefusal e pruning) 0) (placesRefusal (length (constraints h e)) places words) (settingRefusal e pruning)

@@ -1,4 +1,4 @@
-// The tests of a setting and of the places of lent lists: 12, 14, 25.
+// The tests of a setting and of the places of lent lists: 12, 25.
 ghost use mathlib.Core.Path.{_≡_};
 ghost use Rattle.answers.specs.Settings.{settingRefusal, placesRefusal};
 
@@ -12,13 +12,10 @@ pub fn setting_refusal(encoding: u8, pruning: u8) -> u8
     if pruning > 1 { 12 } else { 0 }
 }
 
-// 14 more than 4,096 constraints; 25 a list with fewer places than constraints, or fewer than 32 row words.
+// 25 a list with fewer places than constraints, or fewer than 32 row words.
 pub fn places_refusal(count: u16, places: usize, words: usize) -> u8
     ensures { λ r. ⌜ r ≡ placesRefusal count places words ⌝ }
 {
-    if count > 4096 {
-        return 14;
-    }
     if places < count as usize {
         return 25;
     }

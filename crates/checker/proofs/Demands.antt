@@ -1,22 +1,24 @@
 -- Demands 1, 2 and 3 of the calls, in the demands' own words, over what each call gives and leaves (`specs/`). The contracts in `src/lib.rt` are
 -- equations with these definitions, so that what is said here is said of the calls. Each theorem cites the law that proves it. Assumes nothing.
-use Prim.Native.Nat.{ℕ, _<_}
+use Prim.Native.Nat.{ℕ, _≤_, _<_}
 use native.Mathlib.Omega.{arith}
 use mathlib.Core.Path.{_≡_, refl, sym, ap, subst, _∙_}
 use mathlib.Core.Logic.{_↔_, _≢_}
 use mathlib.Core.Bool.{Bool, true, false, cond, _&&_}
 use mathlib.Core.List.{List, _++_}
-use lib.Dec.{eqb, leb}
+use lib.Dec.{eqb, leb, ltb}
 use lib.ListN.{length, getD, drop}
 use Rattle.model.specs.declared.Constraint.{Constraint}
 use Rattle.model.specs.History.{start, legal, lastWriter, replay, valueOf}
 use Rattle.model.specs.Log.{historyOf}
 use Rattle.model.specs.Window.{Window, windowNumber, windowHistory, zeros, fromZeros}
 use Rattle.model.specs.Lent.{encodedList, encodedRows}
+use Rattle.model.specs.Polygraph.{constraints}
 use Rattle.model.proofs.Basics.{true-eq, eq-eqb}
 use Rattle.model.proofs.Windows.{number-of-log, table-iff, taken-long, taken-log}
 use Rattle.model.proofs.Demands.{every-read-sees-the-value-it-names}
 use Rattle.answers.specs.Stages.{isFresh, holdsLog}
+use Rattle.answers.specs.Settings.{settingRefusal}
 use Rattle.checker.specs.declared.Case.{Case}
 use Rattle.checker.specs.Cases.{windowIn, historyIn, orderIn, stageOf, loadedCase}
 use Rattle.checker.specs.Calls.{loadRefusal, caseAfterLoad, checkRefusal, checkYes}
@@ -26,6 +28,7 @@ use Rattle.checker.specs.Results.{orderRefused, tableRefused, orderLeft,
 use Rattle.checker.specs.Demand.{Settles, Demand3}
 use Rattle.checker.specs.Starting.{Indifferent, AsBefore}
 use Rattle.checker.proofs.Chain.{taken, refused}
+use Rattle.checker.proofs.Encodes.{tests-fresh, tests-setting, tests-places, enough-places}
 use Rattle.checker.proofs.Writing.{table-stage, table-room}
 use Rattle.checker.proofs.Loads.{refusal-fresh, refusal-other, refusal-none}
 use Rattle.checker.proofs.Starting.{same-answers, load-replaces, decided-alike, decided-keeps, load-number-alike, load-alike, zeros-number, zeros-case, zeros-start, table-from, table-at}
@@ -61,6 +64,19 @@ order-refused-changes-nothing c ys f = refused (orderRefused c (length ys)) _ ys
 pub table-refused-changes-nothing : (c : Case) (ys : List ℕ) → tableRefused c (length ys) ≢ 0 → tableLeft c ys ≡ ys
 unfolding tableLeft
 table-refused-changes-nothing c ys f = refused (tableRefused c (length ys)) _ ys f
+
+-- Encode and Decide (with 32 row words) test 22, a fresh case, before 12, a setting out of range, whatever the lists; and 12 before 25, a list that is too short.
+pub tests-22-12-25 : (c : Case) (e pruning places words : ℕ) →
+    (isFresh (stageOf c) ≡ true → encodeRefusal c e pruning places words ≡ 22)
+    × (isFresh (stageOf c) ≡ false → settingRefusal e pruning ≢ 0 → encodeRefusal c e pruning places words ≡ 12)
+    × (isFresh (stageOf c) ≡ false → settingRefusal e pruning ≡ 0 → encodeRefusal c e pruning places words ≡ cond (ltb places (length (constraints (historyIn c) e))) 25 (cond (ltb words 32) 25 0))
+tests-22-12-25 c e pruning places words = (tests-fresh c e pruning places words, tests-setting c e pruning places words, tests-places c e pruning places words)
+
+-- No case has more constraints than 4,096 places hold: on a list that long, with 32 row words, Encode and Decide refuse a case that isn't fresh only for its setting.
+pub four-thousand-ninety-six-places-are-enough : (c : Case) (e pruning places words : ℕ) → isFresh (stageOf c) ≡ false → 4096 ≤ places → 32 ≤ words
+    → (encodeRefusal c e pruning places words ≡ settingRefusal e pruning) × (decideRefusal c e pruning places ≡ settingRefusal e pruning)
+four-thousand-ninety-six-places-are-enough c e pruning places words f l m =
+    (enough-places c e pruning places words f l m, enough-places c e pruning places 32 f l (omega arith))
 
 -- A window that is not refused is taken into a case that counts as fresh, and the case then holds it: the log, with its history, and the starting table,
 -- of 32 values. Which logs are taken say the model's `load-takes-only-well-formed`, `load-takes-only-laid-out` and `load-takes-every-well-formed`.

@@ -1,13 +1,14 @@
 -- Encode's tests in their order, and what it gives and leaves. Assumes nothing.
+--     tests-fresh, tests-setting, tests-places        22, 12, 25.        enough-places        of 4,096 places none is missing
 --     plans-fresh, plans-setting, plans-counted        what is decided before anything is written, by the tests
 --     encodes-refused, encodes-done        the call, refused and not
 use Prim.Native.Nat.{ℕ, _≤_}
 use native.Mathlib.Omega.{arith}
 use mathlib.Core.Path.{_≡_, refl, sym, ap, ap₂, _∙_}
-use mathlib.Core.Logic.{_≢_}
-use mathlib.Core.Bool.{Bool, true, false, not, cond}
+use mathlib.Core.Logic.{⊎-elim, _≢_}
+use mathlib.Core.Bool.{Bool, true, false, cond}
 use mathlib.Core.List.{List, _++_}
-use lib.Dec.{T, eqb, ltb, nltb→le}
+use lib.Dec.{eqb, ltb}
 use lib.ListN.{length, take, drop}
 use lib.Seq.{take-length}
 use borrow.Author.Tests.{eq-eqb, ne-eqb}
@@ -19,22 +20,14 @@ use Rattle.pruning.specs.declared.Pruned.{Pruned}
 use Rattle.checker.specs.declared.Case.{Case}
 use Rattle.checker.specs.declared.Encoding.{Encoding}
 use Rattle.checker.specs.declared.polygraphs.Planning.{Planning}
-use Rattle.checker.specs.Cases.{historyIn, stageOf}
+use Rattle.checker.specs.Cases.{contents, historyIn, stageOf}
 use Rattle.answers.specs.Stages.{isFresh}
 use Rattle.answers.specs.Copies.{copied}
 use Rattle.answers.specs.Numbers.{numberOf, replyOf}
 use Rattle.checker.specs.Encodings.{encodeRefusal, encodeAnswer, encodeList, encodeRows, Encodes, Plans}
-use Rattle.answers.specs.Settings.{settingRefusal, placesRefusal}
-use Rattle.answers.proofs.Answering.{number-reply, places-zero}
-
--- where the places are not refused, the constraints are at most 4,096
-places-few : (n places words : ℕ) → placesRefusal n places words ≡ 0 → n ≤ 4096
-unfolding placesRefusal
-places-few n places words = go (ltb 4096 n) (λ t. nltb→le 4096 n t)
-  where
-    go : (a : Bool) → (T (not a) → n ≤ 4096) → _≡_ {A = ℕ} (cond a 14 (cond (ltb places n) 25 (cond (ltb words 32) 25 0))) 0 → n ≤ 4096
-    go true f z = absurd (omega (arith, z))
-    go false f z = f tt
+use Rattle.answers.specs.Settings.{settingRefusal, placesRefusal, polygraphRefusal}
+use Rattle.answers.proofs.Answering.{number-reply, setting-either, places-zero, enough-for-a-log}
+use Rattle.checker.proofs.Holding.{case-loads}
 
 module _ (c : Case) (e pruning places words : ℕ) where
   -- the number, by the first two tests
@@ -44,6 +37,24 @@ module _ (c : Case) (e pruning places words : ℕ) where
   refusal-is : (a b : Bool) → isFresh (stageOf c) ≡ a → eqb (settingRefusal e pruning) 0 ≡ b → encodeRefusal c e pruning places words ≡ tested a b
   unfolding encodeRefusal
   refusal-is a b p q = ap₂ tested p q
+
+  pub tests-fresh : isFresh (stageOf c) ≡ true → encodeRefusal c e pruning places words ≡ 22
+  tests-fresh p = refusal-is true (eqb (settingRefusal e pruning) 0) p refl
+
+  pub tests-setting : isFresh (stageOf c) ≡ false → settingRefusal e pruning ≢ 0 → encodeRefusal c e pruning places words ≡ 12
+  tests-setting p ne =
+      refusal-is false false p (ne-eqb (settingRefusal e pruning) 0 ne) ∙ ⊎-elim (λ (z : settingRefusal e pruning ≡ 0). absurd (ne z)) (λ z. z) (setting-either e pruning)
+
+  pub tests-places : isFresh (stageOf c) ≡ false → settingRefusal e pruning ≡ 0
+      → encodeRefusal c e pruning places words ≡ cond (ltb places (length (constraints (historyIn c) e))) 25 (cond (ltb words 32) 25 0)
+  unfolding placesRefusal
+  tests-places p z = refusal-is false true p (eq-eqb (settingRefusal e pruning) 0 z)
+
+  -- 4,096 places are enough for every case that isn't fresh, in every encoding
+  pub enough-places : isFresh (stageOf c) ≡ false → 4096 ≤ places → 32 ≤ words → encodeRefusal c e pruning places words ≡ settingRefusal e pruning
+  unfolding encodeRefusal
+  enough-places p l m =
+      ap (λ (f : Bool). cond f 22 (polygraphRefusal (historyIn c) e pruning places words)) p ∙ enough-for-a-log (contents c) (case-loads c p) e pruning places words l m
 
   refused : (r : Planning) → r .number ≡ encodeRefusal c e pruning places words → r .number ≢ 0 → Plans c e pruning places words r
   refused r is ne = record { number-is = is; plan = λ z. absurd (ne z); ready = λ z. absurd (ne z); room = λ z. absurd (ne z) }
@@ -61,7 +72,7 @@ module _ (c : Case) (e pruning places words : ℕ) where
       record {
         number-is = is;
         plan = λ _. plan;
-        ready = λ q. record { few = places-few (r .plan .count) places words (sym n ∙ q); fits = places-zero (r .plan .count) places words (sym n ∙ q) .0 };
+        ready = λ q. record { few = plan .chosen-are .low; fits = places-zero (r .plan .count) places words (sym n ∙ q) .0 };
         room = λ q. places-zero (r .plan .count) places words (sym n ∙ q) .1;
       }
 

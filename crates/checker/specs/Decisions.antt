@@ -21,7 +21,7 @@ use Rattle.checker.specs.Cases.{historyIn, answeredCase}
 use Rattle.checker.specs.Encodings.{encodeRefusal}
 use Rattle.answers.specs.Numbers.{verdictNumber}
 
--- Decide tests 22, 12, 14 and 25 as Encode does, for a list of so many places; it writes no row words.
+-- Decide tests 22, 12 and 25 as Encode does, for a list of so many places; it writes no row words.
 abbrev pub decideRefusal : Case → ℕ → ℕ → ℕ → ℕ
 decideRefusal c e pruning places = encodeRefusal c e pruning places 32
 

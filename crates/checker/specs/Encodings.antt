@@ -16,7 +16,7 @@ use Rattle.answers.specs.Stages.{isFresh}
 use Rattle.answers.specs.Numbers.{numberOf, replyOf}
 use Rattle.answers.specs.Settings.{polygraphRefusal}
 
--- Encode tests 22, a fresh case, then 12, 14, 25.
+-- Encode tests 22, a fresh case, then 12, 25.
 unfoldable pub encodeRefusal : Case → ℕ → ℕ → ℕ → ℕ → ℕ
 encodeRefusal c e pruning places words = cond (isFresh (stageOf c)) 22 (polygraphRefusal (historyIn c) e pruning places words)
 

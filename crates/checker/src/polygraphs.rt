@@ -31,7 +31,7 @@ fn unplanned(number: u8) -> Planning
     }
 }
 
-// The tests of Encode in their order: 22, 12, 14, 25.
+// The tests of Encode in their order: 22, 12, 25.
 pub(crate) fn planned(c: Case, encoding: u8, pruning: u8, places: usize, words: usize) -> Planning
     ensures { λ r. ⌜ Plans c encoding pruning places words r ⌝ }
 {

@@ -6,7 +6,7 @@ use mathlib.Core.Bool.{Bool, true, false, cond}
 use mathlib.Core.Option.{none, some}
 use mathlib.Core.List.{List}
 use lib.Dec.{T}
-use lib.ListN.{take, replicate}
+use lib.ListN.{length, take, replicate}
 use Rattle.model.specs.History.{History, size, legal}
 use Rattle.model.specs.Log.{transactionsIn, loadNumber, historyOf}
 use Rattle.model.specs.Polygraph.{Polygraph, reach, polygraph}
@@ -16,11 +16,13 @@ use Rattle.model.specs.RowWords.{Tidy, cyclic}
 use Rattle.model.proofs.Basics.{clash}
 use Rattle.model.proofs.First.{first-missing}
 use Rattle.model.proofs.Loaded.{loadable-log, history-size}
-use Rattle.model.proofs.Pruning.{legal-iff, polygraph-sound, way-forward}
+use Rattle.model.proofs.Counting.{constraints-log}
+use Rattle.model.proofs.Pruning.{legal-iff, polygraph-sound, polygraph-length, way-forward}
 use Rattle.model.proofs.Reach.{within-tidy}
 use Rattle.model.proofs.Sides.{cyclic-in}
 use Rattle.graph.proofs.Rows.{reach-idem}
 use Rattle.listing.specs.Candidates.{itemsBy}
+use Rattle.listing.proofs.Lists.{items-length}
 use Rattle.search.specs.Constraints.{listOf}
 use Rattle.search.specs.Orders.{Asked, Answered}
 use Rattle.search.specs.Steps.{PartialOrder}
@@ -30,6 +32,17 @@ use Rattle.search.proofs.Steps.{is-true, is-false}
 use Rattle.search.proofs.Firsts.{closed-asked, closed-answered}
 use Rattle.decision.specs.Words.{WordsOf}
 use Rattle.decision.specs.Answer.{SettledIn, isSome, firstAnswer}
+
+-- in no setting has a log more than 4,096 constraints
+pub settled-few : (b : List ℕ) → loadNumber b ≡ 0 → (ts ks : List ℕ) (n : ℕ) (closed : List ℕ) → SettledIn (historyOf b) ts ks n closed → n ≤ 4096
+settled-few b ok ts ks n closed s =
+    omega (
+      arith,
+      items-length ts ks n,
+      ap length (s .items-are),
+      polygraph-length (historyOf b) (s .encoding) (s .pruning),
+      constraints-log b ok (s .encoding),
+    )
 
 -- ---- known edges with a cycle, and without one
 
@@ -75,7 +88,7 @@ module _ (b : List ℕ) (ok : loadNumber b ≡ 0) (t : ℕ) (size-is : t ≡ tra
   t-is = size-is ∙ sym (history-size b)
 
   asked-open : Asked (size h) w n (p .known)
-  asked-open = asked-of h (loadable-log b ok) (settled .encoding) (settled .pruning) (settled .low) w n same (omega (arith, put .long)) (settled .few)
+  asked-open = asked-of h (loadable-log b ok) (settled .encoding) (settled .pruning) (settled .low) w n same (omega (arith, put .long)) (settled-few b ok ts ks n closed settled)
 
   pub asked : Asked t w n closed
   asked = subst (λ (x : ℕ). Asked x w n closed) (sym t-is) (closed-asked (size h) w n (p .known) asked-open closed (settled .rows-are))

@@ -3,7 +3,7 @@ use mathlib.Core.Path.{_≡_}
 use mathlib.Core.Bool.{Bool, true, false}
 use mathlib.Core.List.{List}
 use mathlib.Core.Option.{Option, none, some}
-use Prim.Native.Nat.{ℕ, _<_, _≤_}
+use Prim.Native.Nat.{ℕ, _<_}
 use Rattle.model.specs.History.{History}
 use Rattle.model.specs.Polygraph.{reach, polygraph}
 use Rattle.model.specs.Search.{firstLegal}
@@ -17,7 +17,6 @@ pub record SettledIn (h : History) (t ks : List ℕ) (n : ℕ) (closed : List �
   pub pruning : ℕ
   pub low : encoding < 3
   pub once : pruning < 2
-  pub few : n ≤ 4096
   pub items-are : itemsBy t ks n ≡ polygraph h encoding pruning .choices
   pub rows-are : closed ≡ reach (polygraph h encoding pruning .known)
 

@@ -360,11 +360,12 @@ fn print(name: &[u8], kind: u8) {
     end();
 }
 
-// Whether Decide refuses a setting out of range, and any setting of a fresh case, also with no places.
+// Whether Decide refuses a setting out of range, and any setting of a fresh case, also with no places for the constraint that c has in encodings 1 and 2.
 fn settings_refused(c: Case) -> bool {
     refuses(lists::decide(c, 3, 0, 4096, lists::marked(1)), c, 12)
         && refuses(lists::decide(c, 255, 0, 0, lists::marked(1)), c, 12)
         && refuses(lists::decide(c, 0, 2, 4096, lists::marked(1)), c, 12)
+        && refuses(lists::decide(c, 2, 2, 0, lists::marked(1)), c, 12)
         && refuses(
             lists::decide(Case::fresh(), 2, 1, 4096, lists::marked(1)),
             Case::fresh(),
@@ -384,6 +385,10 @@ fn main() {
     print(b"blind writes", trial::BLIND);
     print(b"read-modify-write chains", trial::CHAINS);
     text(b"settings out of range and a fresh case are refused as they must be:");
-    yes_no(settings_refused(loaded(b"\x00\x00\x00\x00")));
+    // two transactions that write one key
+    let c = loaded(
+        b"\x02\x00\x02\x00\x00\x01\x00\x00\x01\x01\x01\x00\x01\x00\x05\x00\x01\x00\x07\x00",
+    );
+    yes_no(settings_refused(c));
     end();
 }

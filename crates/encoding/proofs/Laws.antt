@@ -1,10 +1,10 @@
 -- What choosing, listing, pruning and clearing leave is the polygraph. Assumes nothing.
---     by-bodies, by-runs      the tables and the numbers of encoding 0, and of encodings 1 and 2
+--     room-bodies, by-bodies, room-runs, by-runs      the numbers have a place; the tables and the numbers of encoding 0, and of encodings 1 and 2
 --     aimed            pruning may go over the list once the constraints are listed.        encoded      what is left at the end
 --     written-left     the first constraints listed, and the places behind them cleared
 use Prim.Native.Nat.{ℕ, _+_, _-_, _≤_, _<_}
 use native.Mathlib.Omega.{arith}
-use mathlib.Core.Path.{_≡_, sym, ap, ap₂, subst, _∙_}
+use mathlib.Core.Path.{_≡_, refl, sym, ap, ap₂, subst, _∙_}
 use mathlib.Core.Logic.{_≢_}
 use mathlib.Core.List.{List, _++_}
 use lib.ListN.{length, getD, take, drop, replicate, List·getD-append}
@@ -14,6 +14,7 @@ use Rattle.model.specs.Polygraph.{Polygraph, constraints, polygraph}
 use Rattle.model.specs.Log.{transactionsIn, operationsIn, historyOf}
 use Rattle.model.specs.Lent.{noConstraint, encodedList, encodedCount}
 use Rattle.model.specs.declared.Constraint.{Constraint}
+use Rattle.model.proofs.Counting.{constraints-log}
 use Rattle.model.proofs.Loaded.{Bytes, history-size, well-formed}
 use Rattle.listing.specs.Candidates.{itemsBy}
 use Rattle.listing.specs.Choosing.{Space, Chose}
@@ -21,26 +22,41 @@ use Rattle.listing.specs.Listing.{Chosen}
 use Rattle.listing.specs.Plain.{plainNumbers, PlainTable}
 use Rattle.listing.specs.Runs.{runWords, runNumbers}
 use Rattle.listing.proofs.Lists.{items-length, items-aimed}
-use Rattle.listing.proofs.Whole.{chosen-bodies, chosen-runs}
+use Rattle.listing.proofs.Whole.{plain-room, chosen-bodies, runs-room, chosen-runs}
 use Rattle.pruning.specs.Passes.{Aims, pruned, settled, Pruning}
 use Rattle.pruning.specs.declared.Pruned.{Pruned}
-use Rattle.encoding.specs.Writing.{TablesOf, Planned, Writable, Encoded}
+use Rattle.encoding.specs.Writing.{TablesOf, Planned, Encoded}
 
 -- ---- the tables and the numbers
 
 module _ (b : List ℕ) (n : ℕ) (writers marks : List ℕ) (ok : TablesOf b n writers marks) (w ks : List ℕ) (space : Space w ks) where
+  few : (e : ℕ) → length (constraints (historyOf b) e) ≤ 4096
+  few e = constraints-log b (ok .loads) e
+
+  pub room-bodies : length (plainNumbers b writers (transactionsIn b)) ≤ 4096
+  room-bodies = plain-room b (ok .loads) 0 writers refl (ok .writers-are) (few 0)
+
   pub by-bodies : (e : ℕ) (t ls : List ℕ) (r : ℕ) → e ≡ 0 → PlainTable b (operationsIn b) t × (getD t 1024 0 ≡ 0) × Chose (plainNumbers b writers (transactionsIn b)) 0 ks r ls
       → Chosen (historyOf b) e t ls r
-  by-bodies e t ls r z p = chosen-bodies b (ok .loads) e writers t ks ls r z (ok .writers-are) (space .places) (p .0) (p .1) (p .2)
+  by-bodies e t ls r z p = chosen-bodies b (ok .loads) e writers z (ok .writers-are) (few e) t ks ls r (space .places) (p .0) (p .1) (p .2)
 
-  pub by-runs : Bytes b → (e : ℕ) (t ls : List ℕ) (r : ℕ) → e ≢ 0 → e ≤ 2 → (t ≡ runWords e n writers marks w) × Chose (runNumbers e writers marks) 0 ks r ls → Chosen (historyOf b) e t ls r
-  by-runs bytes e t ls r nz l p =
-      let count : n ≡ size (historyOf b) = ok .count ∙ sym (history-size b) in
-      chosen-runs (historyOf b) (omega (arith, ok .few, count)) (well-formed b bytes (ok .loads)) e n writers marks w t ks ls r nz l count (ok .writers-are) (ok .marks-are) (space .words) (space .places) (p .0) (p .1)
+  module _ (bytes : Bytes b) (e : ℕ) (nz : e ≢ 0) (l : e ≤ 2) where
+    count : n ≡ size (historyOf b)
+    count = ok .count ∙ sym (history-size b)
+
+    small : size (historyOf b) ≤ 32
+    small = omega (arith, ok .few, count)
+
+    pub room-runs : length (runNumbers e writers marks) ≤ 4096
+    room-runs = runs-room (historyOf b) small (well-formed b bytes (ok .loads)) e n writers marks w nz l count (ok .writers-are) (ok .marks-are) (space .words) (few e)
+
+    pub by-runs : (t ls : List ℕ) (r : ℕ) → (t ≡ runWords e n writers marks w) × Chose (runNumbers e writers marks) 0 ks r ls → Chosen (historyOf b) e t ls r
+    by-runs t ls r p =
+        chosen-runs (historyOf b) small (well-formed b bytes (ok .loads)) e n writers marks w nz l count (ok .writers-are) (ok .marks-are) (space .words) (few e) t ks ls r (space .places) (p .0) (p .1)
 
 -- ---- what is written
 
-module _ (t ks rs : List ℕ) (n m : ℕ) (ok : Writable n m) where
+module _ (t ks rs : List ℕ) (n : ℕ) where
   abbrev cs : List Constraint
   cs = itemsBy t ks n
 
@@ -53,7 +69,7 @@ module _ (t ks rs : List ℕ) (n m : ℕ) (ok : Writable n m) where
   -- pruned, and the places behind them cleared
   module _ (h : History) (e pruning : ℕ) (plan : Planned h e t ks rs n) where
     items-are : cs ≡ constraints h e
-    items-are = plan .chosen-are .items-are (ok .few)
+    items-are = plan .chosen-are .items-are
 
     settled-is : settled pruning (record { known = rs; choices = cs }) ≡ polygraph h e pruning
     unfolding settled pruned polygraph

@@ -1,8 +1,8 @@
 -- The bits of a word, lowest first: the laws of every loop that takes the lowest bit of a word and clears it. Assumes nothing.
 --     members-none, members-next     nothing is left of 0; the lowest comes first, and the rest are those of the word without it.        low-below     the lowest is below 32
---     members-few, members-all       at most 32, each a bit of the word.        members-any      a test of some member
+--     members-all                    each is a bit of the word.                 members-any      a test of some member
 --     members-are                    of a word that is known by its bits.       Ascending, members-ascend
-use Prim.Native.Nat.{ℕ, zero, suc, _+_, _^_, _≤_, _<_}
+use Prim.Native.Nat.{ℕ, zero, suc, _+_, _^_, _<_}
 use native.Mathlib.Omega.{arith}
 use native.Mathlib.Nat.{not-suc-le-zero}
 use mathlib.Core.Path.{_≡_, refl, sym, ap, ap₂, _∙_}
@@ -11,7 +11,6 @@ use mathlib.Core.Bool.{Bool, true, false, not, cond, _&&_, _||_}
 use mathlib.Core.List.{List, [], _∷_, _++_}
 use lib.Dec.{T, eqb}
 use lib.Count.{trailingZeros}
-use lib.ListN.{length, length-append}
 use Rattle.model.specs.Lists.{any, keep, upTo, bit, All}
 use Rattle.model.proofs.Basics.{same?, true-eq, false-eq, eq-eqb, ne-eqb, All-imp, All-two, All-keep-in, upTo-in}
 use Rattle.model.proofs.Masks.{bit-none}
@@ -30,15 +29,6 @@ pub keep-none : (p : ℕ → Bool) (n : ℕ) → ((i : ℕ) → i < n → p i �
 keep-none p zero f = refl
 keep-none p (suc n) f =
     keep-snoc p (upTo n) n ∙ ap₂ (λ l (b : Bool). l ++ cond b (n ∷ []) []) (keep-none p n (λ i l. f i (omega arith))) (f n (omega arith))
-
-keep-few : (p : ℕ → Bool) (n : ℕ) → length (keep p (upTo n)) ≤ n
-keep-few p zero = omega arith
-keep-few p (suc n) =
-    omega (arith, keep-few p n, ap length (keep-snoc p (upTo n) n), length-append (keep p (upTo n)) (cond (p n) (n ∷ []) []), one (p n))
-  where
-    one : (b : Bool) → length {A = ℕ} (cond b (n ∷ []) []) ≤ 1
-    one true = omega arith
-    one false = omega arith
 
 keep-each : {A : Type 0} (p : A → Bool) (xs : List A) → All (λ x. T (p x)) (keep p xs)
 keep-each p [] = tt
@@ -92,10 +82,6 @@ members-next w r l ne f =
 
 pub low-below : (w : ℕ) → w < 2 ^ 32 → w ≢ 0 → trailingZeros 32 w < 32
 low-below w l ne = lowest 32 w l ne .below
-
-pub members-few : (w : ℕ) → length (members w) ≤ 32
-unfolding members
-members-few w = keep-few (bit w) 32
 
 -- one who is a member
 pub record In (w x : ℕ) : Type 0 where

@@ -1,6 +1,6 @@
-// Document 01's histories A to J, histories with read-backs and the program's example, through the calls: what Load says, what Decide says and in how many
-// of the six settings, and how many constraints Encode gives in encodings 0, 1 and 2, before pruning and after it; then what Table gives of each from
-// levels that are not zeros. Then what Judge prints for each kind of answer.
+// Document 01's histories A to J, histories with read-backs, the program's example and the logs with the most constraints, through the calls: what Load
+// says, what Decide says and in how many of the six settings, and how many constraints Encode gives in encodings 0, 1 and 2, before pruning and after it;
+// then what Table gives of each from levels that are not zeros, but for the logs with the most constraints. Then what Judge prints for each kind of answer.
 use checker::Case;
 use checker::Decision;
 use checker::Verdict;
@@ -13,6 +13,8 @@ use samples::load_number;
 use samples::loaded;
 use samples::loaded_from;
 use samples::tables::levels;
+
+mod largest;
 
 // ---- the calls
 
@@ -86,8 +88,8 @@ fn print_refusal(n: u8) {
     number(n as u64);
 }
 
-// The lines of a history of n transactions.
-fn show(name: &[u8], log: &[u8], n: usize) {
+// The line of a history of n transactions: what the calls say of it, and its counts.
+fn show_counts(name: &[u8], log: &[u8], n: usize) {
     text(name);
     text(b": load");
     number(load_number(Case::fresh(), log));
@@ -104,6 +106,11 @@ fn show(name: &[u8], log: &[u8], n: usize) {
     number(left(log, 1, 1));
     number(left(log, 2, 1));
     end();
+}
+
+// That line, and the one of what it gives from levels.
+fn show(name: &[u8], log: &[u8], n: usize) {
+    show_counts(name, log, n);
     show_levels(name, log);
 }
 
@@ -280,6 +287,14 @@ fn read_backs() {
     show_polygraph(b"E with read-backs, chained", e, 2);
 }
 
+// The most constraints that 256 operations give: 3,840 in encoding 0, and 3,968 in encodings 1 and 2.
+fn most() {
+    let ring = largest::busy(true);
+    show_counts(b"a ring of reads and writes of 4 keys", &ring, 32);
+    let blind = largest::busy(false);
+    show_counts(b"blind writes of 8 keys", &blind, 32);
+}
+
 // ---- what Judge prints
 
 fn judged(name: &[u8], log: &[u8]) {
@@ -336,5 +351,6 @@ fn main() {
     e_to_g();
     h_to_j();
     read_backs();
+    most();
     judge_each();
 }

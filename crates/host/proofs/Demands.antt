@@ -1,25 +1,31 @@
 -- What a caller in C relies on beside the equations: nothing is written unless 0 is returned; a start changes the table alone, and a table that was written can be
--- one. Assumes nothing.
-use mathlib.Core.Path.{_≡_, refl, sym, ap}
+-- one; 25 speaks of the caller's buffers alone. Assumes nothing.
+use mathlib.Core.Path.{_≡_, refl, sym, ap, _∙_}
 use mathlib.Core.Logic.{_≢_}
-use Prim.Native.Nat.{ℕ}
+use Prim.Native.Nat.{ℕ, _+_, _*_, _≤_}
+use native.Mathlib.Omega.{arith}
 use mathlib.Core.Bool.{Bool, true, false, cond}
 use mathlib.Core.List.{List}
-use lib.Dec.{eqb}
+use lib.Dec.{eqb, ltb}
 use lib.ListN.{length, replicate}
-use borrow.Author.Tests.{ne-eqb}
+use borrow.Author.Tests.{eq-eqb, ne-eqb}
 use Rattle.model.specs.Window.{Window, window, windowNumber, fromZeros}
 use Rattle.checker.specs.declared.Case.{Case}
 use Rattle.answers.specs.declared.Verdict.{Verdict}
 use Rattle.answers.specs.declared.Verdict.the-variants.{Order, NoOrder, Refused}
 use Rattle.checker.specs.Cases.{loadedCase}
-use Rattle.model.specs.Lent.{noConstraint}
+use Rattle.model.specs.Lent.{noConstraint, encodedCount}
 use Rattle.checker.specs.declared.Encoding.{Encoding}
 use Rattle.checker.specs.Encodings.{encodeAnswer, encodeList, encodeRows}
 use Rattle.checker.specs.Results.{tableLeft}
-use Rattle.model.specs.Log.{pairAt}
+use Rattle.model.specs.Log.{pairAt, loadNumber, transactionsIn, historyOf}
+use Rattle.model.specs.Search.{firstLegal}
+use Rattle.model.proofs.Windows.{number-of-zeros}
+use Rattle.decision.specs.Answer.{isSome}
+use Rattle.answers.specs.Settings.{settingRefusal}
 use Rattle.host.specs.Images.{polygraphIn, valuesIn}
 use Rattle.host.proofs.Writing.{kept}
+use Rattle.host.proofs.Room.{decided-code, encoded-code, decided-never-25, encoded-never-25}
 use Rattle.host.proofs.Starting.{start-code-same, start-order-same, written-start}
 use Rattle.host.specs.Codes.{verdictCode, whereOrdered, roomCode, orderOf, tableOf, decisionOf, windowCode, windowOrder, windowTable, decideCode, orderAfter, tableAfter, decideFromCode, decideFromOrder, decideFromTable, polygraphCode, polygraphAfter, encodeCode, encodeAfter}
 
@@ -97,3 +103,37 @@ encode-writes-with-0-alone log e pruning out = go (eqb (windowNumber w) 0)
     go : (b : Bool) → cond b code (windowNumber w) ≢ 0 → cond b (polygraphAfter (loadedCase w) e pruning out) out ≡ out
     go false f = refl
     go true f = ap (λ x. cond x image out) (ne-eqb code 0 f)
+
+-- ---- Room: the 4,096 places that Decide and Encode for C go by are always enough. So of a log that Load takes, in a setting that is taken, Decide gives 255 where no legal
+-- order exists, and else 25 or 0 by the caller's two buffers; Encode gives 25 or 0 by the caller's buffer.
+
+pub decide-gives : (log : List ℕ) → loadNumber log ≡ 0 → (e pruning : ℕ) → settingRefusal e pruning ≡ 0 → (order table : ℕ)
+    → decideCode log e pruning order table ≡ cond (isSome (firstLegal (historyOf log))) (cond (ltb table 64) 25 (cond (ltb order (transactionsIn log)) 25 0)) 255
+decide-gives log taken e pruning setting order table = decided-code (fromZeros log) (number-of-zeros log ∙ taken) e pruning order table setting
+
+pub encode-gives : (log : List ℕ) → loadNumber log ≡ 0 → (e pruning : ℕ) → settingRefusal e pruning ≡ 0 → (room : ℕ)
+    → encodeCode log e pruning room ≡ cond (ltb room (130 + 10 * encodedCount (historyOf log) e pruning)) 25 0
+unfolding encodeCode
+encode-gives log taken e pruning setting room =
+    let w = fromZeros log in
+    let z = number-of-zeros log ∙ taken in
+    ap (λ b. cond b (polygraphCode (encodeAnswer (loadedCase w) e pruning 4096 32) room) (windowNumber w)) (eq-eqb (windowNumber w) 0 z) ∙ encoded-code w z e pruning setting room
+
+-- 25 is never given, of any bytes and in any setting, where the order has 32 bytes and the table 64, or the polygraph 41,090.
+pub decide-never-gives-25 : (log : List ℕ) (e pruning order table : ℕ) → 32 ≤ order → 64 ≤ table → decideCode log e pruning order table ≢ 25
+decide-never-gives-25 log = decided-never-25 (fromZeros log)
+
+pub decide-from-never-gives-25 : (log start : List ℕ) (e pruning order table : ℕ) → 32 ≤ order → 64 ≤ table → decideFromCode log start e pruning order table ≢ 25
+unfolding decideFromCode
+decide-from-never-gives-25 log start e pruning order table long wide = go (eqb (length start) 64)
+  where
+    w : Window
+    w = window log (valuesIn start)
+
+    go : (b : Bool) → cond b (windowCode w e pruning order table) 36 ≢ 25
+    go true z = decided-never-25 w e pruning order table long wide z
+    go false z = omega arith
+
+pub encode-never-gives-25 : (log : List ℕ) (e pruning room : ℕ) → 41090 ≤ room → encodeCode log e pruning room ≢ 25
+unfolding encodeCode
+encode-never-gives-25 log e pruning room l z = encoded-never-25 (fromZeros log) e pruning room l z

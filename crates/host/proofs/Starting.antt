@@ -29,7 +29,7 @@ use Rattle.checker.specs.Results.{orderRefused, orderLeft, tableRefused, tableL
 use Rattle.checker.proofs.Starting.{same-answers, decided-alike, decided-keeps}
 use Rattle.checker.proofs.Verdicts.{deciding-number}
 use Rattle.checker.proofs.Whole.{decision-is}
-use Rattle.host.specs.Codes.{verdictCode, whereOrdered, roomCode, orderOf, tableOf, decisionOf, saidCode, saidOrder, windowCode, windowOrder, windowTable, decideFromCode, decideFromOrder, decideFromTable}
+use Rattle.host.specs.Codes.{verdictCode, whereOrdered, roomCode, orderOf, tableOf, decidePlaces, decisionOf, saidCode, saidOrder, windowCode, windowOrder, windowTable, decideFromCode, decideFromOrder, decideFromTable}
 use Rattle.model.specs.Lists.{upTo}
 use Rattle.model.specs.Log.{pairAt}
 use Rattle.model.proofs.Basics.{same?}
@@ -101,11 +101,11 @@ module _ (log vs us : List ℕ) (long : length vs ≡ 32) (long′ : length us �
 
   verdict-alike : du .verdict ≡ dv .verdict
   unfolding loadedCase
-  verdict-alike = same-answers (loadedCase v) us .verdict e pruning 4096
+  verdict-alike = same-answers (loadedCase v) us .verdict e pruning decidePlaces
 
   case-alike : du .case ≡ withStarting (dv .case) us
   unfolding loadedCase
-  case-alike = decided-alike (loadedCase v) us e pruning 4096
+  case-alike = decided-alike (loadedCase v) us e pruning decidePlaces
 
   pub code-same : (order table : ℕ) → windowCode u e pruning order table ≡ windowCode v e pruning order table
   unfolding windowCode
@@ -231,7 +231,7 @@ module _ (w : Window) (e pruning : ℕ) (order table : List ℕ) where
       go false is v vs z = absurd (subst T (sym (eq-eqb (windowNumber w) 0 z) ∙ is) tt)
       go true is Order vs z = (ap (λ b. cond b image table) (eq-eqb code 0 z), room-of (d .case) (length order) (length table) z)
       go true is NoOrder vs z = absurd (omega (arith, z))
-      go true is (Refused m) vs z = absurd (no-refusal-0 (loadedCase w) e pruning 4096 m vs z)
+      go true is (Refused m) vs z = absurd (no-refusal-0 (loadedCase w) e pruning decidePlaces m vs z)
 
 table-32 : (c : Case) → length (c .starting) ≡ 32 → length (tableLeft c (replicate 32 0)) ≡ 32
 unfolding tableLeft writtenTable
@@ -258,5 +258,5 @@ written-start log start e pruning order table z = go (eqb (length start) 64) z
         let is = table-written w e pruning order table z in
         ap valuesIn (is .0)
         ∙ written-read (tableLeft (decisionOf w e pruning .case) (replicate 32 0)) table
-        (table-32 (decisionOf w e pruning .case) (ap length (decided-keeps (loadedCase w) e pruning 4096) ∙ values-32 start)) (is .1)
+        (table-32 (decisionOf w e pruning .case) (ap length (decided-keeps (loadedCase w) e pruning decidePlaces) ∙ values-32 start)) (is .1)
     go false z = absurd (omega (arith, z))

@@ -61,9 +61,12 @@ orderOf c order table = cond (eqb (roomCode c (length order) table) 0) (orderLef
 unfoldable pub tableOf : Case → ℕ → List ℕ → List ℕ
 tableOf c order table = cond (eqb (roomCode c order (length table)) 0) (filled (valueIn (tableLeft c (replicate 32 0))) 32 table) table
 
--- the decision, on a list that has room for any that is not refused
+-- the places of a list that has room for the constraints of any log (theorem `decide-gives`), and the decision on it
+abbrev pub decidePlaces : ℕ
+decidePlaces = 4096
+
 abbrev pub decisionOf : Window → ℕ → ℕ → Decision
-decisionOf w e pruning = deciding (loadedCase w) e pruning 4096
+decisionOf w e pruning = deciding (loadedCase w) e pruning decidePlaces
 
 -- the code of a decision, and the two lists after it
 abbrev pub saidCode : Decision → ℕ → ℕ → ℕ
@@ -116,7 +119,7 @@ decideFromTable log start e pruning order table = cond (eqb (length start) 64) (
 unfoldable pub polygraphCode : Encoding → ℕ → ℕ
 polygraphCode r room = cond (eqb (numberOf (r .reply)) 0) (cond (ltb room (130 + 10 * r .left)) 25 0) (numberOf (r .reply))
 
--- the polygraph by Encode, on lists that have room for any that is not refused, as bytes
+-- the polygraph by Encode, on lists that have room for any (theorem `encode-gives`), as bytes
 unfoldable pub polygraphAfter : Case → ℕ → ℕ → List ℕ → List ℕ
 polygraphAfter c e pruning out =
     let r = encodeAnswer c e pruning 4096 32 in

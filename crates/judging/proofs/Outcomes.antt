@@ -1,21 +1,21 @@
 -- What the calls give of a log that Load takes, as Judge's text needs it.
---     refusal-is       Decide refuses with the number that is left to Judge, 14 or none
---     said             what each verdict says of Judge's text
+--     refusal-is       Decide refuses no log that Load takes
+--     text-decided     Judge's text is then that of the first legal order
+--     said             what each verdict says
 --     text-is          what is printed from what Order and Table write of a case that is decided with the first legal order
 -- Assumes nothing.
 use Prim.Native.Nat.{ℕ, _≤_}
 use native.Mathlib.Omega.{arith}
 use mathlib.Core.Path.{_≡_, refl, sym, ap, ap₂, subst, _∙_}
-use mathlib.Core.Bool.{Bool, true, false, cond}
-use mathlib.Core.List.{List, _++_, append-nil}
+use mathlib.Core.Bool.{false, cond}
+use mathlib.Core.List.{List, append-nil}
 use mathlib.Core.Option.{Option, none, some}
-use lib.Dec.{T, eqb, ltb}
+use lib.Dec.{T, eqb}
 use lib.ListN.{length, take, drop, replicate}
 use lib.Seq.{take-at}
 use Rattle.model.specs.History.{History, size, legal, replay}
 use Rattle.model.specs.Window.{zeros, fromZeros}
 use Rattle.model.specs.Log.{transactionsIn, loadNumber, historyOf}
-use Rattle.model.specs.Polygraph.{constraints}
 use Rattle.model.specs.Search.{firstLegal}
 use Rattle.model.specs.Lent.{encodedCount}
 use Rattle.model.proofs.Loaded.{history-size, loadable-log}
@@ -27,15 +27,14 @@ use Rattle.answers.specs.declared.Verdict.{Verdict}
 use Rattle.answers.specs.declared.Verdict.the-variants.{Order, NoOrder, Refused}
 use Rattle.checker.specs.Cases.{historyIn, stageOf, loadedCase}
 use Rattle.answers.specs.Stages.{isFresh}
-use Rattle.checker.specs.Encodings.{encodeRefusal}
-use Rattle.answers.specs.Settings.{settingRefusal, placesRefusal}
-use Rattle.checker.specs.Decisions.{decideRefusal, decidedCase, decided, refusedDecision, deciding}
+use Rattle.answers.specs.Settings.{settingRefusal}
+use Rattle.checker.specs.Decisions.{decideRefusal, decided, refusedDecision, deciding}
 use Rattle.checker.specs.Results.{orderLeft, tableLeft}
 use Rattle.checker.proofs.Chain.{load-holds, load-stage, order-writes, table-writes}
+use Rattle.checker.proofs.Encodes.{enough-places}
 use Rattle.report.specs.Text.{refusedText, noOrderText, foundText, marked}
-use Rattle.report.specs.Judge.{decidedText, judgeNumber, judgeText}
+use Rattle.report.specs.Judge.{decidedText, judgeText}
 use Rattle.report.proofs.Answers.{found-is, marked-written}
-use Rattle.report.proofs.Long.{number-many}
 use Rattle.judging.specs.Outcome.{OrderedBy}
 
 module _ (b : List ℕ) (ok : loadNumber b ≡ 0) where
@@ -51,41 +50,35 @@ module _ (b : List ℕ) (ok : loadNumber b ≡ 0) where
   not-fresh : isFresh (stageOf held) ≡ false
   not-fresh = ap isFresh (load-stage (fromZeros b) ok)
 
-  refusal-is : decideRefusal held 2 1 4096 ≡ judgeNumber b
-  unfolding encodeRefusal settingRefusal placesRefusal
-  refusal-is =
-      ap₂ {C = ℕ} (λ (f : Bool) (n : ℕ). cond f 22 (cond (ltb 4096 n) 14 (cond (ltb 4096 n) 25 0))) not-fresh (ap (λ (x : History). length (constraints x 2)) history-is)
-      ∙ one (ltb 4096 (length (constraints h 2)))
-      ∙ number-many b (ltb 4096 (length (constraints h 2))) ok refl
-    where
-      one : (m : Bool) → _≡_ {A = ℕ} (cond m 14 (cond m 25 0)) (cond m 14 0)
-      one true = refl
-      one false = refl
+  -- the list that is lent has places enough
+  refusal-is : decideRefusal held 2 1 4096 ≡ 0
+  unfolding settingRefusal
+  refusal-is = enough-places held 2 1 4096 32 not-fresh (omega arith) (omega arith)
 
-  -- what each verdict says
+  deciding-is : deciding held 2 1 4096 ≡ decided held (firstLegal h) (encodedCount h 2 1)
+  unfolding deciding
+  deciding-is =
+      ap₂ (λ (n : ℕ) (x : History). cond (eqb n 0) (decided held (firstLegal x) (encodedCount x 2 1)) (refusedDecision held n)) refusal-is history-is
+
+  pub text-decided : judgeText b ≡ decidedText h (firstLegal h)
+  unfolding judgeText
+  text-decided = ap (λ (n : ℕ). cond (eqb n 0) (decidedText h (firstLegal h)) (refusedText n)) ok
+
+  -- what each verdict says: Decide does not refuse
   abbrev pub Said : Verdict → Case → Type 0
-  Said Order c = OrderedBy b c × (judgeText b ≡ decidedText h (firstLegal h))
+  Said Order c = OrderedBy b c
   Said NoOrder c = judgeText b ≡ noOrderText
-  Said (Refused n) c = judgeText b ≡ refusedText n
+  Said (Refused n) c = ⊥
 
-  -- where Decide answers, and where it refuses
-  answered : (x : Option (List ℕ)) (k : ℕ) → firstLegal h ≡ x → judgeText b ≡ decidedText h (firstLegal h) → let d = decided held x k in Said (d .verdict) (d .case)
+  answered : (x : Option (List ℕ)) (k : ℕ) → firstLegal h ≡ x → let d = decided held x k in Said (d .verdict) (d .case)
   unfolding decided decidedText
-  answered none k e text = text ∙ ap (decidedText h) e
-  answered (some o) k e text = (record { loads = ok; order = o; first = e; case-is = refl }, text)
-
-  by-number : (t : Bool) (k : ℕ) → eqb (judgeNumber b) 0 ≡ t → let d = cond t (decided held (firstLegal h) k) (refusedDecision held (judgeNumber b)) in Said (d .verdict) (d .case)
-  unfolding judgeText refusedDecision
-  by-number true k e = answered (firstLegal h) k refl (ap (λ x. cond x (decidedText h (firstLegal h)) (refusedText (judgeNumber b))) e)
-  by-number false k e = ap (λ x. cond x (decidedText h (firstLegal h)) (refusedText (judgeNumber b))) e
+  answered none k e = text-decided ∙ ap (decidedText h) e
+  answered (some o) k e = record { loads = ok; order = o; first = e; case-is = refl }
 
   pub said : (d : Decision) → d ≡ deciding held 2 1 4096 → (v : Verdict) → d .verdict ≡ v → Said v (d .case)
-  unfolding deciding
   said d e v is =
       subst (λ (x : Verdict). Said x (d .case)) is
-      (subst (λ (x : Decision). Said (x .verdict) (x .case))
-      (sym (e ∙ ap₂ (λ (n : ℕ) (x : History). cond (eqb n 0) (decided held (firstLegal x) (encodedCount x 2 1)) (refusedDecision held n)) refusal-is history-is))
-      (by-number (eqb (judgeNumber b) 0) (encodedCount h 2 1) refl))
+      (subst (λ (x : Decision). Said (x .verdict) (x .case)) (sym (e ∙ deciding-is)) (answered (firstLegal h) (encodedCount h 2 1) refl))
 
 -- ---- a case that is decided with the first legal order
 

@@ -29,6 +29,13 @@ fn ordered(log: &[u8], c: Case, out: &mut [u8]) -> usize
     report::found_text(order, n, writers, table, out)
 }
 
+// For a Decide that refuses: the 4,096 places that are lent hold the constraints of every log that Load takes, so that no caller comes here.
+fn not_reached() -> usize
+    requires { ⌜ ⊥ ⌝ }
+{
+    0
+}
+
 // The text for a decision of a log that Load took.
 fn decided(log: &[u8], d: Decision, out: &mut [u8]) -> usize
     requires { ⌜ (loadNumber (now log) ≡ 0) × (d ≡ deciding (loadedCase (fromZeros (now log))) 2 1 4096) × (1024 ≤ length (now out)) ⌝ }
@@ -39,7 +46,7 @@ fn decided(log: &[u8], d: Decision, out: &mut [u8]) -> usize
     match verdict {
         Verdict::Order => ordered(log, c, out),
         Verdict::NoOrder => report::none_text(out),
-        Verdict::Refused(n) => report::refused_text(n, out),
+        Verdict::Refused(_) => not_reached(),
     }
 }
 

@@ -1,7 +1,7 @@
 -- What is shown of a list fits it: the count that Encode gives is at most that of the places.
 -- Assumes nothing.
 use mathlib.Core.Path.{_≡_}
-use Prim.Native.Nat.{ℕ, zero, zero-le, _≤_, _<_}
+use Prim.Native.Nat.{ℕ, zero-le, _≤_}
 use native.Mathlib.Nat.{le-trans}
 use native.Mathlib.Omega.{arith}
 use mathlib.Core.Bool.{Bool, true, false, not, cond}
@@ -21,18 +21,17 @@ use Rattle.answers.specs.Settings.{settingRefusal, placesRefusal}
 pub counted-within : (c : Case) (e pruning places words : ℕ) → encodeRefusal c e pruning places words ≡ 0 → length (constraints (historyIn c) e) ≤ places
 unfolding encodeRefusal placesRefusal
 counted-within c e pruning places words =
-    go (isFresh (stageOf c)) (eqb (settingRefusal e pruning) 0) (ltb 4096 n) (ltb places n) (ltb words 32) (λ t z. eqb-ne t z) (λ t. nltb→le places n t)
+    go (isFresh (stageOf c)) (eqb (settingRefusal e pruning) 0) (ltb places n) (ltb words 32) (λ t z. eqb-ne t z) (λ t. nltb→le places n t)
   where
     n : ℕ
     n = length (constraints (historyIn c) e)
 
-    go : (f s m l w : Bool) → (T (not s) → settingRefusal e pruning ≡ 0 → ⊥) → (T (not l) → n ≤ places)
-        → _≡_ {A = ℕ} (cond f 22 (cond s (cond m 14 (cond l 25 (cond w 25 0))) (settingRefusal e pruning))) 0 → n ≤ places
-    go true s m l w r q z = absurd (omega arith)
-    go false true true l w r q z = absurd (omega arith)
-    go false true false true w r q z = absurd (omega arith)
-    go false true false false w r q z = q tt
-    go false false m l w r q z = absurd (r tt z)
+    go : (f s l w : Bool) → (T (not s) → settingRefusal e pruning ≡ 0 → ⊥) → (T (not l) → n ≤ places)
+        → _≡_ {A = ℕ} (cond f 22 (cond s (cond l 25 (cond w 25 0)) (settingRefusal e pruning))) 0 → n ≤ places
+    go true s l w r q z = absurd (omega arith)
+    go false true true w r q z = absurd (omega arith)
+    go false true false w r q z = q tt
+    go false false l w r q z = absurd (r tt z)
 
 pub left-within : (c : Case) (e pruning places words : ℕ) → encodeAnswer c e pruning places words .left ≤ places
 unfolding encodeAnswer encodedCount

@@ -33,7 +33,7 @@ pub fn pack<'a, 'b>(list: &'a mut [Constraint], n: usize, out: &'b mut [u32])
     }
 }
 
-// Encode on a list of 4,096 places, which are enough for any that is not refused; then the constraints left go out as four words each. Proved by hand.
+// Encode on a list of 4,096 places, which are always enough; then the constraints left go out as four words each. Proved by hand.
 pub fn encode<'a, 'b>(
     c: Case,
     encoding: u8,

@@ -1,18 +1,19 @@
 -- The tables of runs, key by key. Assumes nothing.
 --     key-idle, key-busy       a key without two runs, and one with
---     Keys         what stands there after the first k keys.        keys-none, keys-next, keys-all
-use Prim.Native.Nat.{ℕ, _+_}
+--     Keys         what stands there after the first k keys.        keys-none, keys-next, keys-room, keys-all
+use Prim.Native.Nat.{ℕ, _+_, _≤_, _<_}
+use native.Mathlib.Omega.{arith}
 use native.Mathlib.Numerals.{add-one}
 use mathlib.Core.Path.{_≡_, refl, sym, ap, ap₂, subst, _∙_}
 use mathlib.Core.Bool.{Bool, true, false, cond}
 use mathlib.Core.List.{List, []}
-use lib.ListN.{getD, set}
+use lib.ListN.{length, getD, set}
 use Rattle.model.specs.Lists.{each, fold, upTo}
 use Rattle.model.proofs.Loops.{each-snoc, fold-snoc}
 use Rattle.graph.specs.Members.{members}
 use Rattle.listing.specs.Choosing.{Chose}
 use Rattle.listing.specs.Runs.{firstBy, wordsBy, pairsIn, isFew, isIdle, keyWords, keyNumbers, runWords, runNumbers}
-use Rattle.listing.proofs.Choosing.{chose-none, chose-app}
+use Rattle.listing.proofs.Choosing.{chose-none, chose-app, each-room}
 
 module _ (e : ℕ) (writers marks : List ℕ) where
   module _ (k : ℕ) where
@@ -59,6 +60,10 @@ module _ (e : ℕ) (writers marks : List ℕ) where
       chose = subst (λ cs. Chose cs 0 ks q ms) (sym (each-snoc (keyNumbers e writers marks) (upTo k) k) ∙ ap (λ i. each (keyNumbers e writers marks) (upTo i)) (sym (add-one k)))
           (chose-app (each (keyNumbers e writers marks) (upTo k)) (keyNumbers e writers marks k) 0 r q ks ls ms (s .chose) (p .1));
     }
+
+    pub keys-room : (k r : ℕ) (x ls : List ℕ) → k < 32 → Keys n w ks k x r ls → r + length (keyNumbers e writers marks k) ≤ length (runNumbers e writers marks)
+    unfolding runNumbers
+    keys-room k r x ls l s = omega (arith, each-room (keyNumbers e writers marks) k 32 0 r ks ls l (s .chose))
 
     pub keys-all : (k r : ℕ) (x ls : List ℕ) → k ≡ 32 → Keys n w ks k x r ls → (set x 1024 e ≡ runWords e n writers marks w) × Chose (runNumbers e writers marks) 0 ks r ls
     unfolding runWords runNumbers

@@ -1,23 +1,24 @@
 -- The tables of encoding 0, body by body: the words, and the numbers. Assumes nothing.
-use Prim.Native.Nat.{ℕ, suc, _+_, _*_, _≤_, _<_}
+use Prim.Native.Nat.{ℕ, zero, suc, _+_, _≤_, _<_}
 use native.Mathlib.Omega.{arith}
 use native.Mathlib.Numerals.{add-one}
-use mathlib.Core.Path.{_≡_, sym, ap, ap₂, subst, _∙_}
+use mathlib.Core.Path.{_≡_, refl, sym, ap, ap₂, subst, _∙_}
 use mathlib.Core.Logic.{_⊎_, ⊎-elim, _≢_}
 use mathlib.Core.Bool.{not}
 use mathlib.Core.List.{List}
 use lib.Dec.{T, ltb, ltb→lt, nltb→le}
-use lib.ListN.{length, getD, set, length-set}
+use lib.ListN.{length, getD, set, replicate, length-set}
 use lib.Seq.{getD-set-same, getD-set-other}
 use Rattle.model.specs.Lists.{each, upTo}
 use Rattle.model.specs.Log.{transactionsIn, operationsIn, countAt, startAt, countsBefore, operationAt, loadNumber}
 use Rattle.model.proofs.Basics.{same?, decide}
 use Rattle.model.proofs.Loops.{each-snoc}
 use Rattle.model.proofs.Loaded.{Loaded, loaded, counts-suc, counts-mono, within}
+use Rattle.log.specs.Reading.{IsOperation}
 use Rattle.graph.specs.Members.{members}
 use Rattle.listing.specs.Choosing.{Chose, inRow}
-use Rattle.listing.specs.Plain.{maskOf, bodyWord, bodyNumbers, plainNumbersOf, plainNumbers, PlainTable}
-use Rattle.listing.proofs.Choosing.{chose-none, chose-app}
+use Rattle.listing.specs.Plain.{plainMask, bodyWord, bodyNumbers, plainNumbersOf, plainNumbers, PlainTable}
+use Rattle.listing.proofs.Choosing.{chose-none, chose-app, each-room}
 
 -- ---- the words
 
@@ -85,8 +86,27 @@ module _ (b : List ℕ) (e : loadNumber b ≡ 0) where
     getD-set-same w 1024 0 0 (omega (arith, p .long)),
   )
 
-  pub starts-low : (t r : ℕ) → t < transactionsIn b → r ≤ 32 * countsBefore b t → r ≤ 32 * startAt b t
-  starts-low t r l k = omega (arith, ok .starts t l)
+  -- there is such a table: room for its numbers is asked before it is made
+  abbrev Words : ℕ → Type 0
+  Words n = (w : List ℕ) × PlainTable b n w
+
+  words-of : (t m : ℕ) → t < transactionsIn b → m ≤ countAt b t → Words (startAt b t) → Words (startAt b t + m)
+  words-of t zero l k s = (s .0, plain-begin (s .0) t (s .1))
+  words-of t (suc m) l k s =
+      let p = words-of t m l (omega arith) s in
+      subst (λ i. Words (startAt b t + i)) (add-one m) (_, plain-next (p .0) t m (bodyWord t (operationAt b (startAt b t + m))) l (omega arith) (p .1) refl)
+
+  words-before : (t : ℕ) → t ≤ transactionsIn b → Words (countsBefore b t)
+  words-before zero l = (replicate 1025 0, plain-start (replicate 1025 0) refl)
+  words-before (suc t) l =
+      let s = words-before t (omega arith) in
+      let p = words-of t (countAt b t) (omega arith) (omega arith) (s .0, plain-enter (s .0) t (omega arith) (s .1)) in
+      subst (λ i. Words (countsBefore b i)) (add-one t) (p .0, plain-leave (p .0) t (omega arith) (p .1))
+
+  pub plain-some : (w : List ℕ) × (PlainTable b (operationsIn b) w × (getD w 1024 0 ≡ 0))
+  plain-some =
+      let p = words-before (transactionsIn b) (omega arith) in
+      (set (p .0) 1024 0, plain-mark (p .0) (plain-end (p .0) (transactionsIn b) refl (p .1)))
 
 -- ---- the numbers
 
@@ -95,18 +115,32 @@ module _ (b ws : List ℕ) where
   unfolding plainNumbersOf
   numbers-none t n ks = chose-none n ks
 
-  pub numbers-next : (t m from n r mask : ℕ) (ks ls ms : List ℕ) → Chose (plainNumbersOf b ws t m) from ks n ls → mask ≡ maskOf ws t (operationAt b (startAt b t + m))
-      → Chose (inRow (startAt b t + m) (members mask)) n ls r ms → Chose (plainNumbersOf b ws t (m + 1)) from ks r ms
-  unfolding plainNumbersOf bodyNumbers
-  numbers-next t m from n r mask ks ls ms p q c =
+  -- those of a body that is read
+  pub body-numbers : (t m i mask kind key argument : ℕ) → IsOperation b t m kind key argument → i ≡ startAt b t + m → mask ≡ plainMask (getD ws key 0) t kind argument
+      → inRow i (members mask) ≡ bodyNumbers b ws t m
+  unfolding bodyNumbers
+  body-numbers t m i mask kind key argument o p q = cc
+
+  pub numbers-room : (t m count from n : ℕ) (ks ls : List ℕ) → m < count → Chose (plainNumbersOf b ws t m) from ks n ls
+      → n + length (bodyNumbers b ws t m) ≤ from + length (plainNumbersOf b ws t count)
+  unfolding plainNumbersOf
+  numbers-room t m count from n ks ls l c = each-room (bodyNumbers b ws t) m count from n ks ls l c
+
+  pub numbers-next : (t m from n r : ℕ) (ks ls ms : List ℕ) → Chose (plainNumbersOf b ws t m) from ks n ls → Chose (bodyNumbers b ws t m) n ls r ms → Chose (plainNumbersOf b ws t (m + 1)) from ks r ms
+  unfolding plainNumbersOf
+  numbers-next t m from n r ks ls ms p c =
       subst (λ cs. Chose cs from ks r ms) (sym (each-snoc (bodyNumbers b ws t) (upTo m) m) ∙ ap (plainNumbersOf b ws t) (sym (add-one m)))
-      (chose-app (each (bodyNumbers b ws t) (upTo m)) (bodyNumbers b ws t m) from n r ks ls ms p (subst (λ x. Chose (inRow (startAt b t + m) (members x)) n ls r ms) q c))
+      (chose-app (each (bodyNumbers b ws t) (upTo m)) (bodyNumbers b ws t m) from n r ks ls ms p c)
 
   -- ---- by transaction
 
   pub bodies-none : (ks : List ℕ) → Chose (plainNumbers b ws 0) 0 ks 0 ks
   unfolding plainNumbers
   bodies-none ks = chose-none 0 ks
+
+  pub bodies-room : (t count n : ℕ) (ks ls : List ℕ) → t < count → Chose (plainNumbers b ws t) 0 ks n ls → n + length (plainNumbersOf b ws t (countAt b t)) ≤ length (plainNumbers b ws count)
+  unfolding plainNumbers
+  bodies-room t count n ks ls l c = omega (arith, each-room (λ s. plainNumbersOf b ws s (countAt b s)) t count 0 n ks ls l c)
 
   pub bodies-next : (ks ls ms : List ℕ) (t n r : ℕ) → Chose (plainNumbers b ws t) 0 ks n ls → Chose (plainNumbersOf b ws t (countAt b t)) n ls r ms → Chose (plainNumbers b ws (t + 1)) 0 ks r ms
   unfolding plainNumbers

@@ -16,10 +16,10 @@ use Rattle.model.specs.Lists.{bit}
 use Rattle.model.proofs.Basics.{same?}
 use Rattle.model.proofs.Masks.{same-bits}
 use Rattle.graph.specs.Members.{members}
-use Rattle.graph.proofs.WordLaws.{low-cleared}
 use Rattle.graph.proofs.MemberLaws.{members-none, members-next}
 use Rattle.listing.specs.Choosing.{inRow}
 use Rattle.listing.specs.Runs.{lowOf, nextsOf, wordBy, wordsBy, pairsOf, pairsIn, isFew}
+use Rattle.listing.proofs.Choosing.{members-cleared}
 
 -- ---- heads
 
@@ -52,7 +52,7 @@ few-some w r l ne less f =
     let none : length (members r) ≡ 0 = ap (λ x. length (members x)) z ∙ ap length members-none in
     eq-eqb r 0 z ∙ sym (lt-ltb (length (members w)) 2 (omega arith)))
     (λ (z : r ≢ 0).
-    let more : length (members r) ≡ suc (length (members (bitAnd r (r - 1)))) = ap length (members-next r (bitAnd r (r - 1)) (omega arith) z (λ s. low-cleared 32 r s z (omega arith))) in
+    let more : length (members r) ≡ suc (length (members (bitAnd r (r - 1)))) = ap length (members-cleared r (omega arith) z) in
     ne-eqb r 0 z ∙ sym (le-ltb (length (members w)) 2 (omega arith)))
     (same? r 0)
 

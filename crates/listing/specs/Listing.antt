@@ -6,10 +6,9 @@ use lib.ListN.{length}
 use Rattle.model.specs.History.{History}
 use Rattle.model.specs.Polygraph.{constraints}
 use Rattle.listing.specs.Candidates.{itemsBy}
-use Rattle.listing.specs.Choosing.{mostPairs}
 
--- n are the constraints of the history in encoding e, no more than 32 keys can give; where they all have a place, the first n numbers are theirs
+-- n are the constraints of the history in encoding e, at most 4,096; the first n numbers are theirs
 pub record Chosen (h : History) (e : ℕ) (t ks : List ℕ) (n : ℕ) : Type 0 where
   pub count-is : n ≡ length (constraints h e)
-  pub low : n ≤ mostPairs
-  pub items-are : n ≤ 4096 → itemsBy t ks n ≡ constraints h e
+  pub low : n ≤ 4096
+  pub items-are : itemsBy t ks n ≡ constraints h e

@@ -7,7 +7,7 @@ ghost use mathlib.Core.List.{_++_};
 ghost use lib.ListN.{length, getD, drop};
 ghost use Rattle.graph.specs.Members.{members};
 ghost use Rattle.listing.specs.Candidates.{pairItem, chainItem, plainItem, endsBy, itemBy, itemsBy};
-ghost use Rattle.listing.specs.Choosing.{mostPairs, pushed, Chose, inRow};
+ghost use Rattle.listing.specs.Choosing.{Chose, inRow};
 use graph::mask::clear_low;
 use graph::mask::without;
 use model::Constraint;
@@ -22,7 +22,7 @@ const ROWS: usize = 1024;
 
 const ENCODING: usize = 1024;
 
-// How many candidates' numbers have a place.
+// How many places there are for candidates' numbers: no log that Load takes has more constraints.
 pub const PLACES: usize = 4096;
 
 // The readers without x or, where there are none, w alone.
@@ -108,25 +108,15 @@ pub fn nth<'a>(tables: &'a [u32; WORDS], chosen: &'a [u16; PLACES], i: usize) ->
     item(tables, wide(chosen[i]))
 }
 
-// The number c at place n; one without a place is counted alone.
-fn push(chosen: &mut [u16; PLACES], n: u16, c: usize)
-    requires { ⌜ c < 65536 ⌝ }
-    ensures { λ _. ⌜ now (chosen .exit) ≡ pushed (now (chosen .entry)) n c ⌝ }
-{
-    if (n as usize) < PLACES {
-        chosen[n as usize] = c as u16;
-    }
-}
-
 // The candidates of a row, lowest first, after `from` others: how many there are then.
 fn choose(columns: u32, row: usize, from: u16, chosen: &mut [u16; PLACES]) -> u16
-    requires { ⌜ (row < 1024) × (from + 32 ≤ mostPairs) ⌝ }
+    requires { ⌜ (row < 1024) × (from + length (inRow row (members columns)) ≤ 4096) ⌝ }
     ensures { λ r. ⌜ Chose (inRow row (members columns)) from (now (chosen .entry)) r (now (chosen .exit)) ⌝ }
 {
     let mut n = from;
     let mut m = columns;
     while m != 0 {
-        push(chosen, n, row * 32 + u32::trailing_zeros(m) as usize);
+        chosen[n as usize] = (row * 32 + u32::trailing_zeros(m) as usize) as u16;
         n += 1;
         m = clear_low(m);
     }

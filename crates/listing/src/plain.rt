@@ -1,6 +1,6 @@
 // The tables of encoding 0.
 ghost use mathlib.Core.Path.{_≡_};
-ghost use Prim.Native.Nat.{_<_, _≤_, _+_, _*_};
+ghost use Prim.Native.Nat.{_<_, _≤_, _+_};
 ghost use lib.ListN.{length, getD};
 ghost use Rattle.model.specs.Log.{loadNumber, transactionsIn, operationsIn, startAt, countAt};
 ghost use Rattle.log.specs.Reading.{InLog};
@@ -42,7 +42,7 @@ fn rows(
     out: &mut [u32; WORDS],
     chosen: &mut [u16; PLACES],
 ) -> u16
-    requires { ⌜ InLog (now log) t × (t < 32) × (from ≤ 32 * startAt (now log) t) × PlainTable (now log) (startAt (now log) t) (now out) ⌝ }
+    requires { ⌜ InLog (now log) t × (t < 32) × (from + length (plainNumbersOf (now log) (now writers) t (countAt (now log) t)) ≤ 4096) × PlainTable (now log) (startAt (now log) t) (now out) ⌝ }
     ensures { λ r. ⌜ PlainTable (now (log .entry)) (startAt (now (log .entry)) t + countAt (now (log .entry)) t) (now (out .exit))
         × Chose (plainNumbersOf (now (log .entry)) (now (writers .entry)) t (countAt (now (log .entry)) t)) from (now (chosen .entry)) r (now (chosen .exit)) ⌝ }
 {
@@ -68,7 +68,7 @@ pub fn table(
     out: &mut [u32; WORDS],
     chosen: &mut [u16; PLACES],
 ) -> u16
-    requires { ⌜ (loadNumber (now log) ≡ 0) × (length (now out) ≡ 1025) ⌝ }
+    requires { ⌜ (loadNumber (now log) ≡ 0) × (length (now out) ≡ 1025) × (length (plainNumbers (now log) (now writers) (transactionsIn (now log))) ≤ 4096) ⌝ }
     ensures { λ r. ⌜ PlainTable (now (log .entry)) (operationsIn (now (log .entry))) (now (out .exit)) × (getD (now (out .exit)) 1024 0 ≡ 0)
         × Chose (plainNumbers (now (log .entry)) (now (writers .entry)) (transactionsIn (now (log .entry)))) 0 (now (chosen .entry)) r (now (chosen .exit)) ⌝ }
 {

@@ -1,9 +1,10 @@
 // The tables of runs of writes, for encodings 1 and 2.
 ghost use mathlib.Core.Path.{_≡_};
-ghost use Prim.Native.Nat.{_<_, _≤_, _+_, _*_};
+ghost use Prim.Native.Nat.{_<_, _≤_, _+_};
+ghost use lib.ListN.{length};
 ghost use Rattle.graph.specs.Members.{members};
 ghost use Rattle.polygraph.specs.Edges.{successorsBy};
-ghost use Rattle.listing.specs.Choosing.{mostPairs, Chose};
+ghost use Rattle.listing.specs.Choosing.{Chose};
 ghost use Rattle.listing.specs.Runs.{headBy, firstBy, tailBy, lastBy, sourcesBy, wordBy, wordsBy, pairsIn, isFew, keyWords, keyNumbers, runWords, runNumbers};
 use crate::ENCODING;
 use crate::PLACES;
@@ -112,7 +113,7 @@ fn words(
 
 // The candidates of a key: each two of its runs, after `from` others.
 fn pairs(firsts: u32, k: usize, from: u16, chosen: &mut [u16; PLACES]) -> u16
-    requires { ⌜ (k < 32) × (from + 32 * 32 ≤ mostPairs) ⌝ }
+    requires { ⌜ (k < 32) × (from + length (pairsIn k (members firsts)) ≤ 4096) ⌝ }
     ensures { λ r. ⌜ Chose (pairsIn k (members firsts)) from (now (chosen .entry)) r (now (chosen .exit)) ⌝ }
 {
     let mut n = from;
@@ -146,7 +147,7 @@ fn key(
     out: &mut [u32; WORDS],
     chosen: &mut [u16; PLACES],
 ) -> u16
-    requires { ⌜ (k < 32) × (n ≤ 32) × (from + 32 * 32 ≤ mostPairs) ⌝ }
+    requires { ⌜ (k < 32) × (n ≤ 32) × (from + length (keyNumbers encoding (now writers) (now marks) k) ≤ 4096) ⌝ }
     ensures { λ r. ⌜ (now (out .exit) ≡ keyWords encoding n (now (writers .entry)) (now (marks .entry)) (now (out .entry)) k)
         × Chose (keyNumbers encoding (now (writers .entry)) (now (marks .entry)) k) from (now (chosen .entry)) r (now (chosen .exit)) ⌝ }
 {
@@ -170,7 +171,7 @@ pub fn table(
     out: &mut [u32; WORDS],
     chosen: &mut [u16; PLACES],
 ) -> u16
-    requires { ⌜ n ≤ 32 ⌝ }
+    requires { ⌜ (n ≤ 32) × (length (runNumbers encoding (now writers) (now marks)) ≤ 4096) ⌝ }
     ensures { λ r. ⌜ (now (out .exit) ≡ runWords encoding n (now (writers .entry)) (now (marks .entry)) (now (out .entry)))
         × Chose (runNumbers encoding (now (writers .entry)) (now (marks .entry))) 0 (now (chosen .entry)) r (now (chosen .exit)) ⌝ }
 {

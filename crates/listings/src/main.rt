@@ -372,9 +372,11 @@ fn print_refusals(name: &[u8], t: Tally) {
     end();
 }
 
-// Settings out of range, also where the lists are too short.
+// Settings out of range, also where the lists are too short: two transactions that write one key have a constraint in encodings 1 and 2.
 fn settings() -> Tally {
-    let c = loaded(b"\x00\x00\x00\x00");
+    let c = loaded(
+        b"\x02\x00\x02\x00\x00\x01\x00\x00\x01\x01\x01\x00\x01\x00\x05\x00\x01\x00\x07\x00",
+    );
     let a = with_refusal(none(), c, asking(3, 0, 4096, 32), 12);
     let b = with_refusal(a, c, asking(255, 1, 4096, 32), 12);
     let d = with_refusal(b, c, asking(0, 2, 4096, 32), 12);

@@ -1,9 +1,8 @@
 -- How many operations a transaction can have: numbers below n that stand once are at most n, so that in a good one, over 32 keys, reads and writes are at most
 -- 64, and so are read-backs. (They are at most 32; that there are fewer than 256 operations is all that is asked.) Assumes nothing.
-use Prim.Native.Nat.{ℕ, zero, suc, _+_, _*_, _≤_, _<_}
+use Prim.Native.Nat.{ℕ, suc, _+_, _*_, _≤_, _<_}
 use native.Mathlib.Omega.{arith}
-use native.Mathlib.Nat.{not-suc-le-zero}
-use mathlib.Core.Path.{_≡_, refl, sym, ap, _∙_}
+use mathlib.Core.Path.{_≡_, refl, ap, _∙_}
 use mathlib.Core.Logic.{⊎-elim, _≢_}
 use mathlib.Core.Bool.{Bool, true, false, not, cond, _&&_}
 use mathlib.Core.List.{List, [], _∷_, map}
@@ -11,48 +10,22 @@ use lib.Dec.{T, eqb, eqb→eq}
 use lib.ListN.{length, length-map}
 use Rattle.model.specs.Lists.{All, all, count, keepAfter}
 use Rattle.model.specs.History.{Operation, isRead, isWrite, isReadBack, outward, readBacks, keysOnce, goodKeys}
-use Rattle.model.specs.Writing.{sumOf}
 use Rattle.model.proofs.Basics.{and-l, and-r, implies-out, eq-eqb, same?, All-imp, All-after, All-map-in}
-use Rattle.model.proofs.Places.{Once, count-here, count-there}
+use Rattle.model.proofs.Places.{Once, count-here, count-there, length-sum, sum-digits}
 use Rattle.model.proofs.Loaded.{mayPrecede}
 use Rattle.model.proofs.Takes.{before-each}
-use Rattle.model.proofs.Writing.{sum-suc, sum-none, sum-same}
 
 -- ---- numbers that stand once
 
-sum-zero : (n : ℕ) → sumOf (λ k. 0) n ≡ 0
-sum-zero zero = sum-none (λ k. 0)
-sum-zero (suc n) = omega (arith, sum-suc (λ k. 0) n, sum-zero n)
-
-sum-ones : (f : ℕ → ℕ) → ((k : ℕ) → f k ≤ 1) → (n : ℕ) → sumOf f n ≤ n
-sum-ones f l zero = omega (arith, sum-none f)
-sum-ones f l (suc n) = omega (arith, sum-suc f n, sum-ones f l n, l n)
-
--- one more at x
-sum-one-more : (f g : ℕ → ℕ) (x n : ℕ) → x < n → g x ≡ suc (f x) → ((k : ℕ) → x ≢ k → g k ≡ f k) → sumOf g n ≡ suc (sumOf f n)
-sum-one-more f g x zero l e d = absurd (not-suc-le-zero l)
-sum-one-more f g x (suc n) l e d =
-    ⊎-elim
-    (λ (q : x ≡ n). omega (arith, sum-suc f n, sum-suc g n, sum-same g f n (λ k j. d k (λ z. omega arith)), ap f q, ap g q))
-    (λ (q : x ≢ n). omega (arith, sum-suc f n, sum-suc g n, sum-one-more f g x n (omega arith) e d, d n q))
-    (same? x n)
-
--- a list of numbers below n is as long as its counts sum to
-length-counts : (n : ℕ) (xs : List ℕ) → All (λ x. x < n) xs → length xs ≡ sumOf (λ k. count k xs) n
-length-counts n [] l = sym (sum-zero n)
-length-counts n (x ∷ xs) l =
-    ap suc (length-counts n xs (l .1))
-    ∙ sym (sum-one-more (λ k. count k xs) (λ k. count k (x ∷ xs)) x n (l .0) (count-here x x xs refl) (λ k d. count-there x k xs d))
-
 pub once-short : (n : ℕ) (xs : List ℕ) → Once xs → All (λ x. x < n) xs → length xs ≤ n
-once-short n xs once l = omega (arith, length-counts n xs l, sum-ones (λ k. count k xs) once n)
+once-short n xs once l = omega (arith, length-sum n xs l, sum-digits (λ k. count k xs) n once)
 
 -- ---- operations by kind and key
 
-abbrev Kind : Operation → Type 0
+abbrev pub Kind : Operation → Type 0
 Kind o = o .kind < 2
 
-abbrev code : Operation → ℕ
+abbrev pub code : Operation → ℕ
 code o = 2 * o .key + o .kind
 
 -- of two of which the first may stand before the second, kind or key differ
@@ -69,7 +42,7 @@ none-after p [] kp ks ms = refl
 none-after p (o ∷ os) kp ks ms =
     count-there (code o) (code p) (map code os) (apart p o kp (ks .0) (ms .0)) ∙ none-after p os kp (ks .1) (ms .1)
 
-once : (earlier os : List Operation) → All Kind os → T (keysOnce earlier os) → Once (map code os)
+pub once : (earlier os : List Operation) → All Kind os → T (keysOnce earlier os) → Once (map code os)
 unfolding keysOnce
 once earlier [] ks t x = omega arith
 once earlier (o ∷ os) ks t x =

@@ -2,7 +2,7 @@
 -- second number of the setting. Each theorem cites the law that proves it, and says itself what it asks of b or h: mostly that Load takes b, and where it
 -- needs it that b is a list of bytes.
 -- What the calls do is held to these definitions by their contracts (crates `checker` and `writer`).
-use Prim.Native.Nat.{ℕ, _≤_, _<_}
+use Prim.Native.Nat.{ℕ, _*_, _-_, _≤_, _<_}
 use native.Mathlib.Omega.{arith}
 use mathlib.Core.Path.{_≡_, refl, sym, subst}
 use mathlib.Core.Logic.{_⊎_, _↔_, _≢_}
@@ -11,13 +11,14 @@ use mathlib.Core.Option.{none, some}
 use mathlib.Core.List.{List}
 use lib.Dec.{T}
 use lib.ListN.{length, getD}
-use Rattle.model.specs.Lists.{All, any, upToElement}
-use Rattle.model.specs.History.{Operation, History, start, size, operationsOf, isReadBack, readBacks, goodKeys, wellFormed, writes, reads, lastWriter, everyReadExplained, everyReadNamesWhatItSees, isOrder, keepsCabinets, legal, replay, sees, valueOf, valueSeen, everyReadSeesItsWritersValue, everyReadSeesTheValueItNames, withoutReadBacks}
+use Rattle.model.specs.Lists.{All, any, each, total, upTo, upToElement}
+use Rattle.model.specs.History.{Operation, History, start, size, operationsOf, operationCount, isReadBack, readBacks, goodKeys, wellFormed, writes, reads, lastWriter, everyReadExplained, everyReadNamesWhatItSees, isOrder, keepsCabinets, legal, replay, sees, valueOf, valueSeen, everyReadSeesItsWritersValue, everyReadSeesTheValueItNames, withoutReadBacks}
 use Rattle.model.specs.Log.{startAt, backAt, bodyNumber, loadNumber, historyOf, LaidOut}
 use Rattle.model.specs.Window.{Window, windowNumber}
 use Rattle.model.specs.Refusals.{Shorter, Longer, FirstRefused, SecondRead, SecondWrite}
 use Rattle.model.specs.Writing.{logOf, hasLog}
-use Rattle.model.specs.Polygraph.{goodRead, edge, successor, Linked, isHead, tail, has, reach, pass, rows, unpruned, polygraph, Way, AcyclicSelection, Respects}
+use Rattle.model.specs.Polygraph.{goodRead, edge, successor, Linked, isHead, tail, has, reach, pass, rows, constraints, unpruned, polygraph, Way, AcyclicSelection, Respects}
+use Rattle.model.specs.Keys.{perOperation, countOn, constraintsOn}
 use Rattle.model.specs.Search.{firstLegal, LexLess}
 use Rattle.model.proofs.Loaded.{Bytes, operationOf, back-is, history-size, keys-good, well-formed, loadable-log}
 use Rattle.model.proofs.Numbers.{numbers-listed, shorter-iff, longer-iff, body-iff, read-out, read-in, write-out, write-in}
@@ -36,6 +37,8 @@ use Rattle.model.proofs.Selection.{serializable, selections-kept, rows-
 use Rattle.model.proofs.First.{first-some, first-none}
 use Rattle.model.proofs.Tails.{tail-final}
 use Rattle.model.proofs.Rings.{successor-lowest, tail-linked, ring-no-head, ring-no-chain}
+use Rattle.model.proofs.Counting.{counted-log, key-bound, all-operations, all-constraints, listed-by-key, constraints-bound, constraints-log}
+use Rattle.model.proofs.Largest.{plain-3840, joined-3968, chained-3968, round, blind, round-3840, blind-3968, blind-key-496}
 
 -- Load takes only what document 01 and card 1 let through: a history of at most 32 transactions and 256 operations, each transaction with at most one read of a
 -- key that looks at earlier transactions, then one write, then one read-back that names the transaction, every field in its range.
@@ -253,3 +256,63 @@ module _ (b : List ℕ) (taken : loadNumber b ≡ 0) where
   -- The successor of a write is the lowest-numbered of the other transactions that write the key and have a good read of it from the write.
   pub successor-is-lowest : (k u v : ℕ) → v ≢ u → T (writes h v k) → T (goodRead h k v u) → successor h k u ≤ v
   successor-is-lowest k u v = successor-lowest h k u v
+
+-- ---- how many constraints there are, before pruning
+
+module _ (b : List ℕ) (taken : loadNumber b ≡ 0) where
+  -- Every operation is on one of the 32 keys.
+  pub operations-key-by-key : operationCount (historyOf b) ≡ total (countOn (historyOf b)) (upTo 32)
+  operations-key-by-key = all-operations (historyOf b) 32 (loadable-log b taken .keys)
+
+  module _ (e : ℕ) where
+    -- A key's constraints are at most 16 for each of its operations, in every encoding. Those of the 32 keys are as many as all, and in encodings 1 and 2 the
+    -- list is theirs, one key after another ..
+    pub sixteen-for-each-operation-of-a-key : (k : ℕ) → length (constraintsOn (historyOf b) e k) ≤ perOperation * countOn (historyOf b) k
+    sixteen-for-each-operation-of-a-key k = key-bound (historyOf b) (counted-log b taken) k e
+
+    pub constraints-key-by-key : length (constraints (historyOf b) e) ≡ total (λ k. length (constraintsOn (historyOf b) e k)) (upTo 32)
+    constraints-key-by-key = all-constraints (historyOf b) (loadable-log b taken) e
+
+    pub listed-key-by-key : e ≢ 0 → constraints (historyOf b) e ≡ each (constraintsOn (historyOf b) e) (upTo 32)
+    listed-key-by-key f = listed-by-key (historyOf b) e f
+
+    -- .. so they are at most 16 for each operation of the log, and at most 4,096.
+    pub sixteen-for-each-operation : length (constraints (historyOf b) e) ≤ perOperation * operationCount (historyOf b)
+    sixteen-for-each-operation = constraints-bound b taken e
+
+    pub at-most-4096-constraints : length (constraints (historyOf b) e) ≤ 4096
+    at-most-4096-constraints = constraints-log b taken e
+
+  -- The most in each encoding are fewer ..
+  pub at-most-3840-plain : length (constraints (historyOf b) 0) ≤ 3840
+  at-most-3840-plain = plain-3840 b taken
+
+  pub at-most-3968-joined : length (constraints (historyOf b) 1) ≤ 3968
+  at-most-3968-joined = joined-3968 b taken
+
+  pub at-most-3968-chained : length (constraints (historyOf b) 2) ≤ 3968
+  at-most-3968-chained = chained-3968 b taken
+
+-- some log that Load takes holds such a history
+abbrev Occurs : (History → Type 0) → Type 0
+Occurs P = (b : List ℕ) × (Bytes b × ((loadNumber b ≡ 0) × P (historyOf b)))
+
+occurs : (P : History → Type 0) (h : History) → T (wellFormed h) → P h → Occurs P
+occurs P h good p = let log = has-log-out h (has-log-in h good) in (logOf h, (log .0, (log .1, subst P (sym (loads-back h)) p)))
+
+-- .. and occur.
+pub a-log-with-3840-plain : Occurs (λ h. length (constraints h 0) ≡ 3840)
+a-log-with-3840-plain = occurs (λ h. length (constraints h 0) ≡ 3840) round (round-3840 .0) (round-3840 .1)
+
+pub a-log-with-3968-joined-and-chained : Occurs (λ h. (length (constraints h 1) ≡ 3968) × (length (constraints h 2) ≡ 3968))
+a-log-with-3968-joined-and-chained = occurs (λ h. (length (constraints h 1) ≡ 3968) × (length (constraints h 2) ≡ 3968)) blind (blind-3968 .0) (blind-3968 .1, blind-3968 .2)
+
+-- 16 is the least that holds in encodings 1 and 2: 32 writers of a key that nobody reads give 496 constraints, and 15 for each of its 32 operations are 480.
+-- (Plain constraints are at most 15 for each operation: `Largest`.)
+abbrev NoFewerFor : ℕ → History → Type 0
+NoFewerFor e h = (length (constraintsOn h e 0) ≤ perOperation * countOn h 0) × ((perOperation - 1) * countOn h 0 < length (constraintsOn h e 0))
+
+pub sixteen-is-the-least : Occurs (λ h. NoFewerFor 1 h × NoFewerFor 2 h)
+sixteen-is-the-least =
+    let k = blind-key-496 in
+    occurs (λ h. NoFewerFor 1 h × NoFewerFor 2 h) blind (blind-3968 .0) ((omega (arith, k .0, k .1), omega (arith, k .0, k .1)), (omega (arith, k .0, k .2), omega (arith, k .0, k .2)))

@@ -26,4 +26,7 @@ pub mod Takes
 pub mod Writing
 pub mod Bounds
 pub mod Logs
+pub mod Sums
+pub mod Counting
+pub mod Largest
 pub mod Demands

@@ -445,20 +445,29 @@ well-formed b small e =
     (λ m k. good-operation b small n t (startAt b t) m sz (body-good b ok t m l k))))))
     (keys-good b e t l)))))
 
+-- what holds of every body holds of every operation of the history
+pub every-operation : (b : List ℕ) (P : Operation → Type 0) → ((t m : ℕ) → t < transactionsIn b → m < countAt b t → P (operationOf b t m)) → (t : ℕ) → All P (operationsOf (historyOf b) t)
+every-operation b P f t =
+    ⊎-elim
+    (λ l.
+    let lt = ltb→lt t (transactionsIn b) l in
+    subst (All P) (sym (operations-at b t lt)) (All-map-in P (operationOf b t) (upTo (countAt b t)) (upTo-in (λ m. P (operationOf b t m)) (countAt b t) (λ m k. f t m lt k))))
+    (λ l. subst (All P) (sym (operations-past b t (nltb→le t (transactionsIn b) l))) tt)
+    (decide (ltb t (transactionsIn b)))
+
 -- what the theorems on histories need of a loaded log: at most 32 transactions, and keys below 32
 pub loadable-log : (b : List ℕ) → loadNumber b ≡ 0 → Loadable (historyOf b)
 loadable-log b e =
     let ok = loaded b e in
     record {
       few = omega (arith, ok .few, history-size b);
-      keys = λ t.
-          ⊎-elim
-          (λ l.
-          let lt = ltb→lt t (transactionsIn b) l in
-          subst (All (λ (r : Operation). r .key < 32)) (sym (operations-at b t lt))
-          (All-map-in (λ (r : Operation). r .key < 32) (operationOf b t) (upTo (countAt b t))
-          (upTo-in (λ m. operationOf b t m .key < 32) (countAt b t) (λ m k. omega (arith, body-good b ok t m lt k .key)))))
-          (λ l.
-          subst (All (λ (r : Operation). r .key < 32)) (sym (operations-past b t (nltb→le t (transactionsIn b) l))) tt)
-          (decide (ltb t (transactionsIn b)));
+      keys = every-operation b (λ o. o .key < 32) (λ t m l k. omega (arith, body-good b ok t m l k .key));
     }
+
+-- what counting operations and constraints needs besides: kinds 0 and 1, and at most 256 operations
+pub kinds-log : (b : List ℕ) → loadNumber b ≡ 0 → (t : ℕ) → All (λ o. o .kind < 2) (operationsOf (historyOf b) t)
+kinds-log b e = every-operation b (λ o. o .kind < 2) (λ t m l k. omega (arith, body-good b (loaded b e) t m l k .kind))
+
+pub operations-few : (b : List ℕ) → loadNumber b ≡ 0 → operationCount (historyOf b) ≤ 256
+unfolding historyOf
+operations-few b e = let ok = loaded b e in omega (arith, count-upto b (transactionsIn b), ok .sum, ok .many)

@@ -70,7 +70,7 @@ log-laid-out h =
     subst LaidOut (sym (log-from (size h) (cabinetOf h) (countOf h) o) ∙ ap logOf (every-history h)) (table-laid-out (size h) (cabinetOf h) (countOf h) o)
 
 -- the counts of all transactions sum to that of all operations
-counts-all : (h : History) → sumOf (countOf h) (size h) ≡ operationCount h
+pub counts-all : (h : History) → sumOf (countOf h) (size h) ≡ operationCount h
 counts-all h =
     let o = everyOperation h in
     let n = sumOf (countOf h) (size h) in

@@ -1,6 +1,7 @@
 pub mod Lists
 pub mod History
 pub mod Polygraph
+pub mod Keys
 pub mod RowWords
 pub mod Log
 pub mod Refusals

@@ -84,8 +84,11 @@ between h k first last =
     (keep first (upTo (size h)))
 
 -- Encoding 1, joined: for each key and each two writers i < j of it: A is Ends(i, j) to j, B is Ends(j, i) to i. Listed by key, then i, then j.
+abbrev pub joinedOn : History → ℕ → List Constraint
+joinedOn h k = between h k (λ w. writes h w k) (λ w. w)
+
 unfoldable pub joined : History → List Constraint
-joined h = each (λ k. between h k (λ w. writes h w k) (λ w. w)) (upTo 32)
+joined h = each (joinedOn h) (upTo 32)
 
 -- Links from u to its successor make chains, each from a head to a tail; links in a ring have no head and give no chain. This is one or more links
 -- on key k, from u to v.
@@ -111,8 +114,11 @@ tail h k u = tailWithin h k (size h) u
 
 -- Encoding 2, chained: for each key and two chains with heads g < h and tails p, q: A is Ends(p, h) to h, B is Ends(q, g) to g, also where nobody
 -- read a tail. Listed by key, then g, then h.
+abbrev pub chainedOn : History → ℕ → List Constraint
+chainedOn h k = between h k (isHead h k) (tail h k)
+
 unfoldable pub chained : History → List Constraint
-chained h = each (λ k. between h k (isHead h k) (tail h k)) (upTo 32)
+chained h = each (chainedOn h) (upTo 32)
 
 unfoldable pub constraints : History → ℕ → List Constraint
 constraints h e = cond (eqb e 0) (plain h) (cond (eqb e 1) (joined h) (chained h))

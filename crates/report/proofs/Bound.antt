@@ -11,13 +11,12 @@ use lib.ListN.{length, take, length-append}
 use lib.Seq.{take-all}
 use Rattle.model.specs.History.{History, size, replay}
 use Rattle.model.specs.Window.{zeros}
-use Rattle.model.specs.Log.{historyOf}
+use Rattle.model.specs.Log.{loadNumber, historyOf}
 use Rattle.model.specs.Search.{firstLegal}
 use Rattle.model.proofs.Loaded.{loaded, history-size}
 use Rattle.model.proofs.First.{first-some, legal-length}
 use Rattle.report.specs.Text.{letters, numberText, refusedText, orderText, tableText, foundText}
-use Rattle.report.specs.Judge.{written, decidedText, judgeNumber, judgeText}
-use Rattle.report.proofs.Long.{number-zero}
+use Rattle.report.specs.Judge.{written, decidedText, judgeText}
 use Rattle.report.proofs.Texts.{number-length, order-length, table-length}
 
 found-length : (o : List ℕ) (w : ℕ → Bool) (table : List ℕ) → length o ≤ 32 → length (foundText o w table) ≤ 902
@@ -33,18 +32,18 @@ decided-length h (some o) e few = found-length o (written h) (replay h zeros o) 
 
 pub judge-length : (b : List ℕ) → length (judgeText b) ≤ 902
 unfolding judgeText refusedText
-judge-length b = go (eqb (judgeNumber b) 0) refl
+judge-length b = go (eqb (loadNumber b) 0) refl
   where
     h : History
     h = historyOf b
 
-    go : (t : Bool) → eqb (judgeNumber b) 0 ≡ t → length (cond t (decidedText h (firstLegal h)) (refusedText (judgeNumber b))) ≤ 902
+    go : (t : Bool) → eqb (loadNumber b) 0 ≡ t → length (cond t (decidedText h (firstLegal h)) (refusedText (loadNumber b))) ≤ 902
     go true e =
-        let ok = loaded b (number-zero b (eqb-true (judgeNumber b) 0 e) .0) in
+        let ok = loaded b (eqb-true (loadNumber b) 0 e) in
         decided-length h (firstLegal h) refl (omega (arith, ok .few, history-size b))
     go false e =
         omega (
           arith,
-          length-append (numberText (letters "refused ") (judgeNumber b)) (letters "\n"),
-          number-length (letters "refused ") (judgeNumber b),
+          length-append (numberText (letters "refused ") (loadNumber b)) (letters "\n"),
+          number-length (letters "refused ") (loadNumber b),
         )

@@ -3,19 +3,17 @@
 use Prim.Native.Nat.{ℕ, _+_, _*_, _≤_, _<_}
 use native.Mathlib.Omega.{arith}
 use mathlib.Core.Path.{_≡_, refl, sym, ap, ap₂, _∙_}
-use mathlib.Core.Bool.{Bool, true, false, not, cond, _||_}
+use mathlib.Core.Bool.{Bool, true, false, cond, _||_}
 use mathlib.Core.List.{List}
 use borrow.Author.Tests.{ltb-true, ltb-false, ne-eqb}
-use lib.Dec.{T, eqb, ltb, eqb→eq, nltb→le}
+use lib.Dec.{eqb, ltb}
 use lib.ListN.{length, take}
 use lib.Seq.{getD-take, length-take-le}
 use Rattle.model.specs.Log.{pairAt, transactionsIn, operationsIn, loadNumber, historyOf}
-use Rattle.model.specs.Polygraph.{constraints}
 use Rattle.model.specs.Search.{firstLegal}
-use Rattle.model.proofs.Basics.{eqb-ne}
 use Rattle.model.proofs.Numbers.{load-many-t, load-many-n, load-longer}
 use Rattle.report.specs.Text.{refusedText}
-use Rattle.report.specs.Judge.{decidedText, judgeNumber, judgeText}
+use Rattle.report.specs.Judge.{decidedText, judgeText}
 
 -- T over 32 or N over 256, by the first four bytes
 abbrev pub tooMany : List ℕ → Bool
@@ -47,36 +45,8 @@ long-prefix b n l h =
     ∙ ap₂ {C = ℕ} (λ x y. cond (ltb 32 x || ltb 256 y) 2 35) t o
     ∙ sym (long-number b (omega arith))
 
--- Load's number is Judge's, where it is not 0
-pub number-load : (b : List ℕ) (n : ℕ) → loadNumber b ≡ n → (n ≡ 0 → ⊥) → judgeNumber b ≡ n
-unfolding judgeNumber
-number-load b n e f =
-    ap₂ {C = ℕ} (λ t m. cond t (cond (ltb 4096 (length (constraints (historyOf b) 2))) 14 0) m) (ap (λ m. eqb m 0) e ∙ ne-eqb n 0 f) e
-
--- where Judge refuses nothing, Load takes the log, and it has at most 4,096 constraints
-pub number-zero : (b : List ℕ) → judgeNumber b ≡ 0 → (loadNumber b ≡ 0) × (length (constraints (historyOf b) 2) ≤ 4096)
-unfolding judgeNumber
-number-zero b =
-    go (eqb (loadNumber b) 0) (ltb 4096 n) (λ t. eqb→eq (loadNumber b) 0 t) (λ t z. eqb-ne t z) (λ t. nltb→le 4096 n t)
-  where
-    n : ℕ
-    n = length (constraints (historyOf b) 2)
-
-    go : (t m : Bool) → (T t → loadNumber b ≡ 0) → (T (not t) → loadNumber b ≡ 0 → ⊥) → (T (not m) → n ≤ 4096)
-        → _≡_ {A = ℕ} (cond t (cond m 14 0) (loadNumber b)) 0 → (loadNumber b ≡ 0) × (n ≤ 4096)
-    go true true f g h z = absurd (omega arith)
-    go true false f g h z = (f tt, h tt)
-    go false m f g h z = absurd (g tt z)
-
--- by the two tests
-pub number-many : (b : List ℕ) (m : Bool) → loadNumber b ≡ 0 → m ≡ ltb 4096 (length (constraints (historyOf b) 2)) → _≡_ {A = ℕ} (cond m 14 0) (judgeNumber b)
-unfolding judgeNumber
-number-many b m z e =
-    ap {B = ℕ} (λ x. cond x 14 0) e
-    ∙ sym (ap₂ {C = ℕ} (λ t k. cond t (cond (ltb 4096 (length (constraints (historyOf b) 2))) 14 0) k) (ap (λ k. eqb k 0) z) z)
-
 -- 'refused' and the number, where it is not 0, is all that Judge prints
-pub refused-only : (b : List ℕ) (n : ℕ) → judgeNumber b ≡ n → (n ≡ 0 → ⊥) → judgeText b ≡ refusedText n
+pub refused-only : (b : List ℕ) (n : ℕ) → loadNumber b ≡ n → (n ≡ 0 → ⊥) → judgeText b ≡ refusedText n
 unfolding judgeText
 refused-only b n e f =
     ap₂ (λ t m. cond t (decidedText (historyOf b) (firstLegal (historyOf b))) (refusedText m)) (ap (λ m. eqb m 0) e ∙ ne-eqb n 0 f) e
@@ -85,8 +55,7 @@ pub judge-prefix : (b : List ℕ) (n : ℕ) → 1156 < n → n ≤ length b → 
 judge-prefix b n l h =
     let e = long-number b (omega arith) in
     let some : loadNumber b ≡ 0 → ⊥ = λ z. not-zero (tooMany b) (sym e ∙ z) in
-    refused-only (take n b) (loadNumber b) (number-load (take n b) (loadNumber b) (long-prefix b n l h) some) some
-    ∙ sym (refused-only b (loadNumber b) (number-load b (loadNumber b) refl some) some)
+    refused-only (take n b) (loadNumber b) (long-prefix b n l h) some ∙ sym (refused-only b (loadNumber b) refl some)
   where
     not-zero : (c : Bool) → _≡_ {A = ℕ} (cond c 2 35) 0 → ⊥
     not-zero true e = omega arith

@@ -3,13 +3,11 @@ use Prim.Native.Nat.{ℕ}
 use mathlib.Core.Bool.{Bool, cond}
 use mathlib.Core.List.{List}
 use mathlib.Core.Option.{Option, none, some}
-use lib.Dec.{eqb, ltb}
-use lib.ListN.{length}
+use lib.Dec.{eqb}
 use Rattle.model.specs.Lists.{any, upTo}
 use Rattle.model.specs.History.{History, size, writes, replay}
 use Rattle.model.specs.Log.{loadNumber, historyOf}
 use Rattle.model.specs.Window.{zeros}
-use Rattle.model.specs.Polygraph.{constraints}
 use Rattle.model.specs.Search.{firstLegal}
 use Rattle.report.specs.Text.{refusedText, noOrderText, foundText}
 
@@ -22,10 +20,6 @@ unfoldable pub decidedText : History → Option (List ℕ) → List ℕ
 decidedText h none = noOrderText
 decidedText h (some o) = foundText o (written h) (replay h zeros o)
 
--- the number with which Load or Decide refuses the log: Load's, then 14, more than 4,096 constraints in encoding 2
-unfoldable pub judgeNumber : List ℕ → ℕ
-judgeNumber b = cond (eqb (loadNumber b) 0) (cond (ltb 4096 (length (constraints (historyOf b) 2))) 14 0) (loadNumber b)
-
--- 'refused' and the number; else what the first legal order gives
+-- 'refused' and Load's number, as Decide, in Judge's setting and on its list, refuses no log that Load takes; else what the first legal order gives
 unfoldable pub judgeText : List ℕ → List ℕ
-judgeText b = cond (eqb (judgeNumber b) 0) (decidedText (historyOf b) (firstLegal (historyOf b))) (refusedText (judgeNumber b))
+judgeText b = cond (eqb (loadNumber b) 0) (decidedText (historyOf b) (firstLegal (historyOf b))) (refusedText (loadNumber b))

@@ -13,7 +13,7 @@ slice-aggregate-words : tie.Need-slice-aggregate-words
 slice-aggregate-words c = search needs
 
 words-requires : tie.Need-words-requires
-words-requires c κs = let p = c .before .before .before .pre .2 in (p .few, omega (arith, p .few))
+words-requires c κs = let few = c .before .before .before .pre .1 in (omega arith, omega arith)
 
 slice-aggregate-first-closed : tie.Need-slice-aggregate-first-closed
 slice-aggregate-first-closed c = sym (c .before .before .words .ensures .long)
@@ -21,12 +21,12 @@ slice-aggregate-first-closed c = sym (c .before .before .words .ensures .long)
 first-closed-requires : tie.Need-first-closed-requires
 first-closed-requires c κs =
     let s = c .before .before .before .before .before .before in
-    (asked (s .args .log .now) (s .pre .0) _ (c .before .before .before .before .transactions .ensures .0) (s .args .tables .now) (s .args .chosen .now) _ _ (s .pre .2) 256 (omega (arith, s .pre .2 .few)) _ (c .before .before .words .ensures), s .pre .3)
+    (asked (s .args .log .now) (s .pre .0) _ (c .before .before .before .before .transactions .ensures .0) (s .args .tables .now) (s .args .chosen .now) _ _ (s .pre .2) 256 (omega (arith, s .pre .1)) _ (c .before .before .words .ensures), s .pre .3)
 
 returns : tie.Need-returns
 returns c =
     let s = c .before .before .before .before .before .before .before in
-    answered (s .args .log .now) (s .pre .0) _ (c .before .before .before .before .before .transactions .ensures .0) (s .args .tables .now) (s .args .chosen .now) _ _ (s .pre .2) 256 (omega (arith, s .pre .2 .few)) _ (c .before .before .before .words .ensures) _ (c .first-closed .ensures)
+    answered (s .args .log .now) (s .pre .0) _ (c .before .before .before .before .before .transactions .ensures .0) (s .args .tables .now) (s .args .chosen .now) _ _ (s .pre .2) 256 (omega (arith, s .pre .1)) _ (c .before .before .before .words .ensures) _ (c .first-closed .ensures)
 
 pub first-of-few-spec : {M : Type 1} → statement M
 first-of-few-spec =

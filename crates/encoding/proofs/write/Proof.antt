@@ -109,7 +109,7 @@ module _ {M : Type 1} (𝓤 : URA M) (H : Heap 𝓤) (A : Atoms 𝓤) (W : Given
       assigns ! (addr ! (from ! (fld ! refl (hop ! (look-in ! 20 (sub ! 0 refl (whole !))) (stop !))))) (from ! (stop !)) (init ! 10 refl (tt, tt)) $
       assigns ! (agg ! (and-then ! (load ! (from ! (stop !)) (look ! 10 refl)) (and-then ! (load ! (from ! (fld ! refl (stop !))) (look-in ! 20 (sub ! 1 refl (whole !)))) (no-more !)))) (from ! (stop !)) (init ! 8 refl (tt, (tt, (record { fits = room .0 }, tt)))) $
       calls-lending ! (fmOf 𝓤 H (W .laws) 𝓣) R (named 1) (named 0) κ q γ b o m l₁′ len room (Answer (prunedK .row) (Pruning rows l₁′ n pruning))
-      (prune-left 𝓤 H A mem run W (𝓣 .C) (fmOf 𝓤 H (W .laws) 𝓣) b o m l₁′ len (known .prune) rows n pruning rows-ok n-fits pruning-fits (omega (arith, len, ready .fits), aimed ts ks rows n m ready ys l₁′ is))
+      (prune-left 𝓤 H A mem run W (𝓣 .C) (fmOf 𝓤 H (W .laws) 𝓣) b o m l₁′ len (known .prune) rows n pruning rows-ok n-fits pruning-fits (omega (arith, len, ready .fits), aimed ts ks rows n ys l₁′ is))
       (λ i j. and-then ! (load ! (from ! (stop !)) (look ! 26 refl)) (and-then ! (load ! (from ! (stop !)) (look ! 8 refl)) (and-then ! (load ! (from ! (stop !)) (look ! 24 refl)) (and-then ! (load ! (from ! (stop !)) (look ! 22 refl)) (no-more !))))) (λ u₂ l₂′ gave₂ len₂.
       let r : Pruned = gave₂ .0 in let p : Pruning rows l₁′ n pruning r l₂′ = gave₂ .1 .0 in let r-ok : Good prunedK r = good prunedK r u₂ (gave₂ .1 .1) in let left-fits : r .left < 2 ^ 16 = of-pruned r u₂ (gave₂ .1 .1) .1 in
       land ! (from ! (stop !)) (init ! 18 refl (typed prunedK 𝓤 H A W r u₂ (gave₂ .1 .1) .0)) $ rewrite ! 18 (λ (w : Val). ‵ (fat fullShare D′.mir l₇ 0 w)) (val-is prunedK r u₂ (gave₂ .1 .1)) refl $
@@ -124,7 +124,7 @@ module _ {M : Type 1} (𝓤 : URA M) (H : Heap 𝓤) (A : Atoms 𝓤) (W : Given
       returns ! (look ! 32 refl) $ forget ! 4 refl $ forget ! 6 refl $ forget ! 8 refl $ forget ! 10 refl $ forget ! 12 refl $ forget ! 14 refl $ forget ! 16 refl $ forget ! 18 refl $ forget ! 20 refl $ forget ! 22 refl $ forget ! 24 refl $ forget ! 26 refl $ forget ! 28 refl $ forget ! 30 refl $ forget ! 32 refl $
       move ! (32 ∷ 33 ∷ []) $ free1 ! $ move ! (30 ∷ 31 ∷ []) $ free1 ! $ move ! (28 ∷ 29 ∷ []) $ free1 ! $ move ! (26 ∷ 27 ∷ []) $ free1 ! $ move ! (24 ∷ 25 ∷ []) $ free1 ! $ move ! (22 ∷ 23 ∷ []) $ free1 ! $ move ! (20 ∷ 21 ∷ []) $ free1 ! $ move ! (18 ∷ 19 ∷ []) $ free1 ! $
       move ! (16 ∷ 17 ∷ []) $ free1 ! $ move ! (14 ∷ 15 ∷ []) $ free1 ! $ move ! (12 ∷ 13 ∷ []) $ free1 ! $ move ! (10 ∷ 11 ∷ []) $ free1 ! $ move ! (8 ∷ 9 ∷ []) $ free1 ! $ move ! (6 ∷ 7 ∷ []) $ free1 ! $ move ! (4 ∷ 5 ∷ []) $ free1 ! $ free0 ! $
-      keep ! (0 ∷ 1 ∷ 3 ∷ []) $ by ! (exits r l₃′ r-ok len₃ (λ h e plan. encoded ts ks rows n m ready h e pruning plan ys l₁′ l₂′ l₃′ r is p (gave₃ .1 .0)))))))))))))))))))))
+      keep ! (0 ∷ 1 ∷ 3 ∷ []) $ by ! (exits r l₃′ r-ok len₃ (λ h e plan. encoded ts ks rows n h e pruning plan ys l₁′ l₂′ l₃′ r is p (gave₃ .1 .0)))))))))))))))))))))
 
 module _ {M : Type 1} (𝓤 : URA M) (H : Heap 𝓤) (A : Atoms 𝓤) (W : Given 𝓤 H A) (mem : Memory → SProp 𝓤) (run : Routine → Fun 𝓤) (𝓣 : Tables 𝓤 H) (known : Known 𝓤 H A mem run (𝓣 .C)) where
   write-walks : Walks 𝓤 H A f.ended stayed (WpFn 𝓤 H (𝓣 .C) (𝓣 .Λ) code.function) (f.clauses 𝓤 H A mem run)

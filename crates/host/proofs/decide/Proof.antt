@@ -4,7 +4,7 @@ use lib.ListN.{length}
 use Rattle.model.specs.Window.{window, windowNumber}
 use Rattle.model.specs.Log.{loadNumber}
 use Rattle.model.proofs.Windows.{number-of-log}
-use Rattle.host.specs.Codes.{saidCode, saidOrder, saidTable, windowCode, windowOrder, windowTable}
+use Rattle.host.specs.Codes.{decidePlaces, saidCode, saidOrder, saidTable, windowCode, windowOrder, windowTable}
 use Rattle.host.proofs.Taking.{where-refused, refused-number, where-taken}
 use Rattle.host.proofs.Deciding.{as-decided, found-order}
 use borrow.Author.Needs.{needs}
@@ -39,7 +39,7 @@ answered-requires : tie.Need-answered-requires
 answered-requires c κs =
     let a = c .before .before .before .before .before .before .before .before .before .before .args in
     let loads = sym (c .before .before .before .before .before .before .number .ensures) ∙ c .before .before .before .before .before .if1 .left in
-    (loads, found-order (window (a .log .now) (a .starting)) loads (a .encoding) (a .pruning) 4096 _ _ _ _ (c .before .before .decided .ensures))
+    (loads, found-order (window (a .log .now) (a .starting)) loads (a .encoding) (a .pruning) decidePlaces _ _ _ _ (c .before .before .decided .ensures))
 
 same-length : tie.Need-same-length
 same-length c = search needs
@@ -57,7 +57,7 @@ returns-2 c =
     let wd = window (a .log .now) (a .starting) in
     let long : length (a .starting) ≡ 32 = search needs in
     let same : loadNumber (a .log .now) ≡ windowNumber wd = sym (number-of-log wd long) in
-    let d = as-decided wd (sym is ∙ z) (a .encoding) (a .pruning) 4096 _ _ _ _ (c .before .before .before .before .before .before .before .decided .ensures) in (
+    let d = as-decided wd (sym is ∙ z) (a .encoding) (a .pruning) decidePlaces _ _ _ _ (c .before .before .before .before .before .before .before .decided .ensures) in (
       where-taken wd _ _ is same _ _ _ z (w .0 _ ∙ ap (λ x. saidCode x (length (a .order .now)) (length (a .table .now))) d),
       (
         where-taken wd _ _ is same _ _ _ z (w .1 .0 _ ∙ ap (λ x. saidOrder x (a .order .now) (length (a .table .now))) d),

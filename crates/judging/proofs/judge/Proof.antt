@@ -5,7 +5,7 @@ use Rattle.model.proofs.Windows.{number-of-zeros}
 use Rattle.checker.specs.Calls.{loading}
 use Rattle.checker.specs.Decisions.{deciding}
 use Rattle.report.proofs.Texts.{printed}
-use Rattle.report.proofs.Long.{number-load, refused-only}
+use Rattle.report.proofs.Long.{refused-only}
 use native.Mathlib.Omega.{arith}
 use mathlib.Core.Path.{refl, sym, ap, _∙_}
 use borrow.Author.Needs.{needs}
@@ -30,8 +30,7 @@ refused-text-requires c κs = search needs
 returns : tie.Need-returns
 returns c =
     let number = c .before .before .before .number .ensures ∙ c .before .before .before .before .load .ensures .1 ∙ fresh-number _ (fromZeros _) (c .before .before .before .before .before .before .fresh .ensures) ∙ number-of-zeros _ in
-    let some = c .before .before .if1 .taken in
-    printed (c .refused-text .ensures) (sym (refused-only _ _ (number-load _ _ (sym number) some) some))
+    printed (c .refused-text .ensures) (sym (refused-only _ _ (sym number) (c .before .before .if1 .taken)))
 
 decide-requires : tie.Need-decide-requires
 decide-requires c κs = search needs

@@ -1,5 +1,5 @@
 -- `answers::deciding::decided` meets its contract. Assumes nothing.
-use Rattle.answers.proofs.Answering.{setting-zero, places-few}
+use Rattle.answers.proofs.Answering.{setting-zero}
 use Rattle.answers.proofs.Finding.{setting-finds, places-finds, settled-in, answer-finds, rows-tidy}
 use mathlib.Core.Path.{sym, _∙_}
 use borrow.Author.Needs.{needs}
@@ -34,7 +34,7 @@ pruning-needed-requires : tie.Need-pruning-needed-requires
 pruning-needed-requires c κs = search needs
 
 settle-requires : tie.Need-settle-requires
-settle-requires c κs = places-few _ _ _ (sym (c .before .before .before .before .before .before .before .places-refusal .ensures) ∙ c .before .before .before .before .before .before .if2 .left)
+settle-requires c κs = c .before .before .before .before .before .before .before .before .prepare .ensures .chosen-are .low
 
 first-settled-requires : tie.Need-first-settled-requires
 first-settled-requires c κs =

@@ -1,15 +1,14 @@
 -- `listing::plain::rows` meets its contract. Assumes nothing.
 use native.Mathlib.Omega.{arith}
-use mathlib.Core.Path.{_≡_, ap, ap₂, sym, subst, _∙_}
-use lib.ListN.{getD, set}
+use mathlib.Core.Path.{_≡_, ap, sym, subst}
+use mathlib.Core.List.{List}
+use lib.ListN.{length, set}
 use Prim.Native.Nat.{ℕ, _≤_, _-_, _+_, _*_, _%_}
 use borrow.Author.Needs.{needs}
-use Rattle.model.specs.Log.{countAt, startAt, operationAt}
-use Rattle.graph.specs.Members.{members}
-use Rattle.listing.specs.Choosing.{Chose, inRow}
-use Rattle.listing.specs.Plain.{PlainTable, plainMask, plainNumbersOf}
-use Rattle.listing.proofs.PlainFill.{plain-next, plain-begin, numbers-none, numbers-next}
-use Rattle.listing.proofs.Counts.{bodies-low}
+use Rattle.model.specs.Log.{countAt, startAt}
+use Rattle.listing.specs.Choosing.{Chose}
+use Rattle.listing.specs.Plain.{PlainTable, plainNumbersOf}
+use Rattle.listing.proofs.PlainFill.{plain-next, plain-begin, numbers-none, body-numbers, numbers-room, numbers-next}
 use Rattle.listing.proofs.plain.rows.Statement.{statement}
 use Rattle.listing.proofs.plain.rows.Tie as tie
 
@@ -72,7 +71,10 @@ choose-requires : tie.Need-choose-requires Inv-loop μ-loop
 choose-requires c κs =
     let l = c .before .before .before .before .before .before .loop in
     let s = c .before .before .before .before .before .before .before .before .before .before in
-    (omega arith, omega (arith, l .inv .1, bodies-low _ _ _ _ (s .args .log .now) (s .args .writers .now) (s .args .t) (l .m) (s .pre .2) (l .inv .5)))
+    let a = s .args in
+    let b = a .log .now in
+    let are = body-numbers b (a .writers .now) (a .t) (l .m) _ _ _ _ _ (c .before .before .before .before .operation .ensures) (ap (λ (k : ℕ). k + l .m) (l .inv .1)) (c .before .mask .ensures) in
+    (omega arith, omega (arith, ap length are, numbers-room b (a .writers .now) (a .t) (l .m) (countAt b (a .t)) _ _ _ _ (omega arith) (l .inv .5)))
 
 add-m : tie.Need-add-m Inv-loop μ-loop
 add-m c = search needs
@@ -94,10 +96,9 @@ loop-again c =
       l .inv .3,
       subst (λ (k : ℕ). PlainTable (a .log .now) (startAt (a .log .now) (a .t) + (l .m + 1)) (set (l .out) (k + l .m) (a .t + 32 * (v .argument % 32)))) (sym first)
           (plain-next (a .log .now) (s .pre .0 .loads) (l .out) (a .t) (l .m) _ (s .pre .0 .below) (omega arith) (l .inv .4) (ap (λ (x : ℕ). a .t + 32 * (x % 32)) (o .argument-is))),
-      numbers-next (a .log .now) (a .writers .now) (a .t) (l .m) _ _ _ _ _ _ _ (l .inv .5)
-          (c .before .before .mask .ensures ∙ ap (λ (k : ℕ). plainMask (getD (a .writers .now) k 0) (a .t) (v .kind) (v .argument)) (o .key-is)
-          ∙ ap₂ (λ (x y : ℕ). plainMask (getD (a .writers .now) (operationAt (a .log .now) (startAt (a .log .now) (a .t) + l .m) .key) 0) (a .t) x y) (o .kind-is) (o .argument-is))
-          (subst (λ (k : ℕ). Chose (inRow (k + l .m) (members (c .before .before .mask .result))) (l .n) (l .chosen) (c .choose .result) (c .choose .last .1 .1 .1 .0)) first (c .choose .ensures)),
+      numbers-next (a .log .now) (a .writers .now) (a .t) (l .m) _ _ _ _ _ _ (l .inv .5)
+          (subst (λ (cs : List ℕ). Chose cs (l .n) (l .chosen) (c .choose .result) (c .choose .last .1 .1 .1 .0))
+          (body-numbers (a .log .now) (a .writers .now) (a .t) (l .m) _ _ _ _ _ o (ap (λ (k : ℕ). k + l .m) first) (c .before .before .mask .ensures)) (c .choose .ensures)),
     )
 
 returns : tie.Need-returns Inv-loop μ-loop

@@ -6,8 +6,7 @@ use borrow.Author.Needs.{needs}
 use Rattle.model.specs.Log.{transactionsIn, countsBefore}
 use Rattle.listing.specs.Choosing.{Chose}
 use Rattle.listing.specs.Plain.{plainNumbers, PlainTable}
-use Rattle.listing.proofs.Counts.{transactions-low}
-use Rattle.listing.proofs.PlainFill.{plain-start, plain-enter, plain-leave, plain-end, plain-mark, starts-low, bodies-none, bodies-next, bodies-all}
+use Rattle.listing.proofs.PlainFill.{plain-start, plain-enter, plain-leave, plain-end, plain-mark, bodies-none, bodies-room, bodies-next, bodies-all}
 use Rattle.listing.proofs.plain.table.Statement.{statement}
 use Rattle.listing.proofs.plain.table.Tie as tie
 
@@ -31,7 +30,7 @@ rows-requires c κs =
     let s = c .before .before .before .before .before .before in (
       record { loads = s .pre .0; below = omega arith },
       omega arith,
-      starts-low (s .args .log .now) (s .pre .0) (l .t) _ (omega arith) (transactions-low _ _ _ (s .args .log .now) (s .args .writers .now) (l .t) (l .inv .4)),
+      omega (arith, bodies-room (s .args .log .now) (s .args .writers .now) (l .t) (transactionsIn (s .args .log .now)) _ _ _ (omega arith) (l .inv .4)),
       plain-enter (s .args .log .now) (s .pre .0) _ (l .t) (omega arith) (l .inv .3),
     )
 

@@ -1,10 +1,13 @@
 -- `listing::runs::key` meets its contract. Assumes nothing.
+use native.Mathlib.Omega.{arith}
 use Prim.Native.Nat.{ℕ}
 use mathlib.Core.Path.{sym, ap, subst, _∙_}
+use lib.ListN.{length}
 use Rattle.graph.specs.Members.{members}
 use Rattle.listing.specs.Choosing.{Chose}
 use Rattle.listing.specs.Runs.{wordsBy, pairsIn}
 use Rattle.listing.proofs.Keys.{idle-few, idle-is, key-idle, key-busy}
+use Rattle.listing.proofs.RunWords.{numbers-are}
 use borrow.Author.Needs.{needs}
 use Rattle.listing.proofs.runs.key.Statement.{statement}
 use Rattle.listing.proofs.runs.key.Tie as tie
@@ -39,7 +42,9 @@ words-requires : tie.Need-words-requires
 words-requires c κs = search needs
 
 pairs-requires : tie.Need-pairs-requires
-pairs-requires c κs = search needs
+pairs-requires c κs =
+    let a = c .before .before .before .before .before .before .before .before .before .args in
+    (omega arith, omega (arith, ap length (numbers-are (a .encoding) (a .n) (a .writers .now) (a .marks .now) (a .k)), ap (λ (f : ℕ). length (pairsIn (a .k) (members f))) (c .before .before .before .before .before .first .ensures)))
 
 returns-3 : tie.Need-returns-3
 returns-3 c =

@@ -1,27 +1,25 @@
 -- `listing::runs::pairs` meets its contract. Assumes nothing.
 use lib.Count.{trailingZeros}
 use native.Mathlib.Omega.{arith}
-use Prim.Native.Nat.{_+_, _*_, _^_, _<_, _≤_}
-use mathlib.Core.Path.{ap}
-use lib.ListN.{length}
+use Prim.Native.Nat.{_+_, _*_, _^_, _<_}
 use borrow.Author.Needs.{needs}
 use Rattle.graph.specs.Members.{members}
-use Rattle.graph.proofs.MemberLaws.{members-next, members-few, low-below}
+use Rattle.graph.proofs.MemberLaws.{members-next, low-below}
+use Rattle.listing.specs.Choosing.{inRow}
 use Rattle.listing.specs.Runs.{pairsIn}
-use Rattle.listing.proofs.Choosing.{Going, going-next, going-end}
-use Rattle.listing.proofs.Counts.{row-few}
+use Rattle.listing.proofs.Choosing.{Going, going-next, going-end, going-room}
 use Rattle.listing.proofs.Stepping.{pairs-next, pairs-none}
 use Rattle.listing.proofs.runs.pairs.Statement.{statement}
 use Rattle.listing.proofs.runs.pairs.Tie as tie
 
 abbrev Inv-loop : tie.InvT-loop
-Inv-loop firsts k from chosen₀ n₀ m₀ chosen n m = (m < 2 ^ 32) × (n + 32 * length (members m) ≤ from + 1024) × Going (pairsIn k (members firsts)) from chosen₀ (pairsIn k (members m)) n chosen
+Inv-loop firsts k from chosen₀ n₀ m₀ chosen n m = (m < 2 ^ 32) × Going (pairsIn k (members firsts)) from chosen₀ (pairsIn k (members m)) n chosen
 
 abbrev μ-loop : tie.MeasureT-loop
 μ-loop firsts k from chosen₀ n₀ m₀ chosen n m = m
 
 loop-holds : tie.Need-loop-holds Inv-loop μ-loop
-loop-holds c = (c .fits .firsts .fits, omega (arith, members-few (c .args .firsts)), λ r ms d. d)
+loop-holds c = (c .fits .firsts .fits, λ r ms d. d)
 
 cast-i : tie.Need-cast-i Inv-loop μ-loop
 cast-i c = omega (arith, low-below (c .before .loop .m) (c .before .loop .inv .0) (c .loop-test .taken))
@@ -38,9 +36,12 @@ add-choose c = omega (arith, low-below (c .before .before .loop .m) (c .before .
 choose-requires : tie.Need-choose-requires Inv-loop μ-loop
 choose-requires c κs =
     let l = c .before .before .before .loop in
+    let k = c .before .before .before .before .args .k in
     let r = c .before .clear-low in
-    let next = members-next (l .m) (r .result) (l .inv .0) (c .before .before .loop-test .taken) (r .ensures .1) in
-    (omega (arith, low-below (l .m) (l .inv .0) (c .before .before .loop-test .taken)), omega (arith, ap length next, l .inv .1))
+    let next = members-next (l .m) (r .result) (l .inv .0) (c .before .before .loop-test .taken) (r .ensures .1) in (
+      omega (arith, low-below (l .m) (l .inv .0) (c .before .before .loop-test .taken)),
+      omega (arith, going-room _ _ _ _ (inRow (k * 32 + trailingZeros 32 (l .m)) (members (r .result))) (pairsIn k (members (r .result))) _ _ (pairs-next k (l .m) _ _ next) (l .inv .1)),
+    )
 
 loop-less : tie.Need-loop-less Inv-loop μ-loop
 loop-less c = c .before .before .clear-low .ensures .0
@@ -52,14 +53,13 @@ loop-again c =
     let r = c .before .before .clear-low in
     let next = members-next (l .m) (r .result) (l .inv .0) (c .before .before .before .loop-test .taken) (r .ensures .1) in (
       omega (arith, r .ensures .0, l .inv .0),
-      omega (arith, ap length next, l .inv .1, c .choose .ensures .count, row-few (a .k * 32 + trailingZeros 32 (l .m)) (r .result)),
-      going-next _ _ _ _ _ _ _ _ _ _ (pairs-next (a .k) (l .m) _ _ next) (l .inv .2) (c .choose .ensures),
+      going-next _ _ _ _ _ _ _ _ _ _ (pairs-next (a .k) (l .m) _ _ next) (l .inv .1) (c .choose .ensures),
     )
 
 returns : tie.Need-returns Inv-loop μ-loop
 returns c =
     let l = c .before .loop in
-    going-end _ _ _ _ _ _ (pairs-none (c .before .before .args .k) (l .m) (c .loop-test .left)) (l .inv .2)
+    going-end _ _ _ _ _ _ (pairs-none (c .before .before .args .k) (l .m) (c .loop-test .left)) (l .inv .1)
 
 pub pairs-spec : {M : Type 1} → statement M
 pairs-spec =

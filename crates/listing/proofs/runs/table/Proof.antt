@@ -2,8 +2,7 @@
 use native.Mathlib.Omega.{arith}
 use Prim.Native.Nat.{_≤_, _-_}
 use borrow.Author.Needs.{needs}
-use Rattle.listing.proofs.Counts.{keys-low}
-use Rattle.listing.proofs.Keys.{Keys, keys-none, keys-next, keys-all}
+use Rattle.listing.proofs.Keys.{Keys, keys-none, keys-next, keys-room, keys-all}
 use Rattle.listing.proofs.runs.table.Statement.{statement}
 use Rattle.listing.proofs.runs.table.Tie as tie
 
@@ -20,7 +19,7 @@ key-requires : tie.Need-key-requires Inv-loop μ-loop
 key-requires c κs =
     let l = c .before .before .before .loop in
     let a = c .before .before .before .before .args in
-    (omega arith, omega arith, omega (arith, keys-low _ _ _ (a .encoding) (a .writers .now) (a .marks .now) (l .k) (l .inv .1 .chose)))
+    (omega arith, omega arith, omega (arith, keys-room (a .encoding) (a .writers .now) (a .marks .now) (a .n) _ _ (l .k) _ _ _ (omega arith) (l .inv .1)))
 
 add-k : tie.Need-add-k Inv-loop μ-loop
 add-k c = search needs
