@@ -2,19 +2,20 @@
  * The proved checker, for programs in C. Link target/staticlib/libhost.a, which `rt staticlib host` writes (x86-64 Linux).
  *
  * A log has the layout of document 01 (../shared/01-scope.md): T transactions, at most 32, and N operations, at most 256, in at most 1,156 bytes.
- * Any bytes may be passed as a log, an order or a start, and any number as a setting: what is wrong is refused by its number.
+ * Any bytes may be passed as a log, an order, a start or times, and any number as a setting or a drift: what is wrong is refused by its number.
  * Every call ends, keeps nothing and may be made from several threads at once. None reads or writes past the lengths that it is given.
  *
- * Of the caller is asked what C can't test: a pointer is not null and has as many bytes as the length after it says, also where that is 0,
+ * Of the caller is asked what C can't test: a pointer has as many bytes as the length after it says, and is not null even where that length is 0,
  * and a buffer that a call writes to overlaps nothing else that the call is given.
  *
- * Stack: beaconcrumb_decide and beaconcrumb_decide_from take at most some 840 KB, most of it in the search, and the others at most some 180 KB
+ * Stack: beaconcrumb_decide, beaconcrumb_decide_from and beaconcrumb_decide_strict take at most some 840 KB, most of it in the search, and the others at most some 180 KB
  * (docs/DECISIONS.md), so a thread that calls one should have 4 MB.
  *
  * In a transaction a key may be read, then written, then read back: a read after the write names its own transaction and is explained by that write.
  *
  * Numbers: 0 done; 1 to 11, 34 and 35 the log is refused, as listed below; 12 encoding over 2 or pruning over 1; 13 the order is not every number below T once;
- * 25 a buffer is too short; 36 the starting table (start) is not 64 bytes; 255 no, as said below.
+ * 25 a buffer is too short; 36 the starting table (start) is not 64 bytes; 37 the times (begin and end) are neither both empty nor both 4T bytes;
+ * 38 a begin after its end, or a drift over 3,600; 255 no, as said below. 36 is tested before the log, 37 and then 38 after it.
  *
  * The numbers of a refused log, in the order of the tests: first the header and the length; then entry by entry, in each 4 before 5; then 6; then body by
  * body, in each 7, 8, 9, then 10 or 34, then 11. The first test that fails gives its number, and all before it have passed. That doesn't say that the
@@ -94,6 +95,28 @@ uint32_t beaconcrumb_encode(const uint8_t *log, size_t log_len, uint8_t encoding
  * Gives a number of a refused log, then 13, where it refuses; else 0 where the order is legal and 255 where it is not. Writes nothing.
  */
 uint32_t beaconcrumb_check(const uint8_t *log, size_t log_len, const uint8_t *order, size_t order_len);
+
+/*
+ * Strict order by the office clock, for owners who bought strict serializability: the same three questions of a log with times.
+ * begin and end hold the second in which each transaction began and ended, in the order of the log's entries: four bytes each, low byte first, so 4T bytes
+ * both. Two lengths of 0 mean a window without times (also then both pointers must not be null): with drift 0 these functions are then the ones above,
+ * beaconcrumb_decide_strict that of beaconcrumb_decide_from; a drift orders nothing there, but one over 3,600 is refused all the same.
+ * The clock knows no summer time. drift is the most seconds by which two cabinets' clocks may differ, 0 to 3,600.
+ * Transaction i comes before j by the clock where end of i plus drift is less than begin of j, a sum that doesn't wrap; equal seconds order nothing.
+ * Such a pair is one known edge more in every encoding, and an order is legal only if it keeps all of them.
+ * They give 37 where begin and end are neither both empty nor both 4T bytes, and 38 where a begin is after its end or the drift is over 3,600, also without
+ * times. What they test, in this order: beaconcrumb_decide_strict 36, the log, 37, 38, 12, 255, 25; beaconcrumb_encode_strict the log, 37, 38, 12, 25;
+ * beaconcrumb_check_strict the log, 37, 38, 13. What is written, and when, is as above.
+ */
+uint32_t beaconcrumb_decide_strict(const uint8_t *log, size_t log_len, const uint8_t *start, size_t start_len,
+                                   const uint8_t *begin, size_t begin_len, const uint8_t *end, size_t end_len, uint32_t drift,
+                                   uint8_t encoding, uint8_t pruning, uint8_t *order, size_t order_len, uint8_t *table, size_t table_len);
+
+uint32_t beaconcrumb_encode_strict(const uint8_t *log, size_t log_len, const uint8_t *begin, size_t begin_len, const uint8_t *end, size_t end_len,
+                                   uint32_t drift, uint8_t encoding, uint8_t pruning, uint8_t *out, size_t out_len);
+
+uint32_t beaconcrumb_check_strict(const uint8_t *log, size_t log_len, const uint8_t *begin, size_t begin_len, const uint8_t *end, size_t end_len,
+                                  uint32_t drift, const uint8_t *order, size_t order_len);
 
 #ifdef __cplusplus
 }

@@ -9,9 +9,10 @@ use lib.Dec.{T, eqb, ltb, eqb→eq, nltb→le, eqb·suc-zero}
 use lib.ListN.{length}
 use borrow.Author.Tests.{eq-eqb, ne-eqb, le-ltb}
 use Rattle.model.specs.History.{isOrder}
-use Rattle.model.specs.Log.{loadNumber, historyOf}
+use Rattle.model.specs.Log.{loadNumber}
+use Rattle.model.specs.Times.{Times, timedHistory}
 use Rattle.model.specs.Polygraph.{constraints}
-use Rattle.model.proofs.Counting.{constraints-log}
+use Rattle.model.proofs.Counting.{constraints-timed}
 use Rattle.answers.specs.declared.Reply.the-variants.{Taken, Refused as RefusedReply}
 use Rattle.answers.specs.declared.Judgement.the-variants.{Legal, Illegal, Refused}
 use Rattle.answers.specs.Numbers.{numberOf, replyOf, judgementNumber, judgementYes, judgementOf}
@@ -116,17 +117,17 @@ pub places-enough : (n places words : ℕ) → n ≤ places → 32 ≤ words →
 unfolding placesRefusal
 places-enough n places words l m = ap₂ {C = ℕ} (λ (a b : Bool). cond a 25 (cond b 25 0)) (le-ltb places n l) (le-ltb words 32 m)
 
--- Of a log that Load takes 4,096 places are always enough: the setting alone can be refused.
-pub enough-for-a-log : (b : List ℕ) → loadNumber b ≡ 0 → (e pruning places words : ℕ) → 4096 ≤ places → 32 ≤ words
-    → polygraphRefusal (historyOf b) e pruning places words ≡ settingRefusal e pruning
-enough-for-a-log b taken e pruning places words l m = go (eqb setting 0) (λ t. eqb→eq setting 0 t)
+-- Of a log that Load takes, with whatever times, 4,096 places are always enough: the setting alone can be refused.
+pub enough-for-a-log : (b : List ℕ) (ts : Times) → loadNumber b ≡ 0 → (e pruning places words : ℕ) → 4096 ≤ places → 32 ≤ words
+    → polygraphRefusal (timedHistory b ts) e pruning places words ≡ settingRefusal e pruning
+enough-for-a-log b ts taken e pruning places words l m = go (eqb setting 0) (λ t. eqb→eq setting 0 t)
   where
     setting : ℕ
     setting = settingRefusal e pruning
 
     n : ℕ
-    n = length (constraints (historyOf b) e)
+    n = length (constraints (timedHistory b ts) e)
 
     go : (t : Bool) → (T t → setting ≡ 0) → cond t (placesRefusal n places words) setting ≡ setting
-    go true f = places-enough n places words (omega (arith, constraints-log b taken e)) m ∙ sym (f tt)
+    go true f = places-enough n places words (omega (arith, constraints-timed b taken e ts)) m ∙ sym (f tt)
     go false f = refl

@@ -5,7 +5,8 @@ use native.Mathlib.Omega.{arith}
 use Rattle.model.specs.Lists.{All}
 use Rattle.model.specs.Lent.{encodedCount}
 use Rattle.model.proofs.Basics.{All-imp}
-use Rattle.model.proofs.Demands.{at-most-4096-constraints}
+use Rattle.model.proofs.Counting.{constraints-timed}
+use Rattle.model.proofs.Times.{timed-log}
 use Rattle.model.proofs.Pruning.{polygraph-length}
 use Rattle.pruning.specs.declared.Place.{Place}
 use Rattle.pruning.specs.Passes.{PlaceWithin}
@@ -59,8 +60,8 @@ module _ (n : ℕ) where
   pub never-past-what-is-listed : (s : Carried) → Handed n s → All (λ (m : ℕ). m ≤ n) (counts s)
   never-past-what-is-listed s handed = few s (bounded s handed)
 
-  -- .. and of a log that Load takes that is at most 4,096.
+  -- .. and of a log that Load takes with its times that is at most 4,096.
   pub never-past-4096 : Listed n → (s : Carried) → Handed n s → All (λ (m : ℕ). m ≤ 4096) (counts s)
   never-past-4096 l s handed =
-      All-imp (λ (m : ℕ). m ≤ n) (λ (m : ℕ). m ≤ 4096) (λ m k. omega (arith, l .count, at-most-4096-constraints (l .log) (l .taken) (l .encoding))) (counts s)
+      All-imp (λ (m : ℕ). m ≤ n) (λ (m : ℕ). m ≤ 4096) (λ m k. omega (arith, l .count, constraints-timed (l .log) (timed-log (l .log) (l .clock) (l .taken)) (l .encoding) (l .clock))) (counts s)
       (never-past-what-is-listed s handed)

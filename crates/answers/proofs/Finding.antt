@@ -9,11 +9,11 @@ use lib.ListN.{length}
 use borrow.Author.Tests.{eq-eqb, ne-eqb}
 use Rattle.model.specs.declared.Constraint.{Constraint}
 use Rattle.model.specs.History.{History, size}
-use Rattle.model.specs.Log.{loadNumber, historyOf}
+use Rattle.model.specs.Times.{Times, timedNumber, timedHistory}
 use Rattle.model.specs.Polygraph.{Polygraph, reach, rows, constraints, polygraph}
 use Rattle.model.specs.Lent.{encodedCount}
 use Rattle.model.specs.RowWords.{Tidy}
-use Rattle.model.proofs.Loaded.{loadable-log}
+use Rattle.model.proofs.Times.{loadable-timed}
 use Rattle.model.proofs.Reach.{within-tidy}
 use Rattle.model.proofs.Pruning.{unpruned-sound}
 use Rattle.listing.specs.Candidates.{itemsBy}
@@ -49,10 +49,10 @@ pub kept-all : (t ks : List ℕ) (n pruning : ℕ) (g ws : List ℕ) → pruning
 kept-all t ks n pruning g ws f e =
     subst (λ (q : Polygraph). PrunedTo q t ks n ws) (sym (settled-other pruning _ f)) (record { choices-are = refl; rows-are = e })
 
--- the known edges of a log that Load takes stay below T
-pub rows-tidy : (b : List ℕ) → loadNumber b ≡ 0 → (e : ℕ) (rs : List ℕ) → rs ≡ rows (historyOf b) e → Tidy rs
-rows-tidy b ok e rs is =
-    let h = historyOf b in let l = loadable-log b ok in
+-- the known edges of a log that Load takes with its times stay below T
+pub rows-tidy : (b : List ℕ) (ts : Times) → timedNumber b ts ≡ 0 → (e : ℕ) (rs : List ℕ) → rs ≡ rows (timedHistory b ts) e → Tidy rs
+rows-tidy b ts ok e rs is =
+    let h = timedHistory b ts in let l = loadable-timed b ts ok in
     subst Tidy (sym is) (within-tidy (rows h e) (size h) (l .few) (unpruned-sound h l e .0))
 
 -- ---- a refusal

@@ -8,28 +8,50 @@ use lib.Dec.{T, eqb, leb, ltb, eqb→eq, leb→le, le→leb, nltb→le}
 use lib.ListN.{length, take}
 use Rattle.model.specs.Log.{transactionsIn, loadNumber}
 use Rattle.model.specs.History.{isOrder}
+use Rattle.model.specs.Times.{timedNumber}
+use Rattle.model.proofs.Times.{timed-log}
 use Rattle.model.proofs.Basics.{and-l, and-r, true-eq, false-eq, not-intro}
 use Rattle.answers.specs.declared.Stage.{Stage}
 use Rattle.answers.specs.declared.Stage.the-variants.{Fresh, Loaded, Ordered, NoOrder}
-use Rattle.answers.specs.Stages.{holdsLog, claimsOrder, counted, isFresh, refusedBy}
+use Rattle.answers.specs.declared.Clock.{Clock}
+use Rattle.answers.specs.Clocks.{timesIn}
+use Rattle.answers.specs.Stages.{holdsWindow, claimsOrder, counted, isFresh, refusedBy}
 
--- ---- the log
+-- ---- the log and its times
 
-pub log-none : (bytes : List ℕ) (n : ℕ) → leb n (length bytes) ≡ false → false ≡ holdsLog bytes n
-unfolding holdsLog
-log-none bytes n e = sym (ap (λ b. b && eqb (loadNumber (take n bytes)) 0) e)
+module _ (bytes : List ℕ) (n : ℕ) (k : Clock) where
+  abbrev taken : Bool
+  taken = eqb (timedNumber (take n bytes) (timesIn k)) 0
 
-pub log-some : (bytes : List ℕ) (n x : ℕ) → leb n (length bytes) ≡ true → x ≡ loadNumber (take n bytes) → eqb x 0 ≡ holdsLog bytes n
-unfolding holdsLog
-log-some bytes n x e p = sym (ap₂ (λ b y. b && eqb y 0) e (sym p))
+  pub window-none : leb n (length bytes) ≡ false → false ≡ holdsWindow bytes n k
+  unfolding holdsWindow
+  window-none e = sym (ap (λ b. b && (leb (k .count) 32 && taken)) e)
 
-pub log-loads : (bytes : List ℕ) (n : ℕ) → T (holdsLog bytes n) → loadNumber (take n bytes) ≡ 0
-unfolding holdsLog
-log-loads bytes n t = eqb→eq (loadNumber (take n bytes)) 0 (and-r (leb n (length bytes)) (eqb (loadNumber (take n bytes)) 0) t)
+  pub window-far : leb n (length bytes) ≡ true → leb (k .count) 32 ≡ false → false ≡ holdsWindow bytes n k
+  unfolding holdsWindow
+  window-far e f = sym (ap₂ (λ b c. b && (c && taken)) e f)
 
-pub log-fits : (bytes : List ℕ) (n : ℕ) → T (holdsLog bytes n) → n ≤ length bytes
-unfolding holdsLog
-log-fits bytes n t = leb→le n (length bytes) (and-l (leb n (length bytes)) (eqb (loadNumber (take n bytes)) 0) t)
+  pub window-some : (x : ℕ) → leb n (length bytes) ≡ true → leb (k .count) 32 ≡ true → x ≡ timedNumber (take n bytes) (timesIn k) → eqb x 0 ≡ holdsWindow bytes n k
+  unfolding holdsWindow
+  window-some x e f p = ap (λ y. eqb y 0) p ∙ sym (ap₂ (λ b c. b && (c && taken)) e f)
+
+  module _ (t : T (holdsWindow bytes n k)) where
+    inner : T (leb (k .count) 32 && taken)
+    unfolding holdsWindow
+    inner = and-r (leb n (length bytes)) (leb (k .count) 32 && taken) t
+
+    pub window-loads : timedNumber (take n bytes) (timesIn k) ≡ 0
+    window-loads = eqb→eq (timedNumber (take n bytes) (timesIn k)) 0 (and-r (leb (k .count) 32) taken inner)
+
+    pub log-loads : loadNumber (take n bytes) ≡ 0
+    log-loads = timed-log (take n bytes) (timesIn k) window-loads
+
+    pub window-fits : n ≤ length bytes
+    unfolding holdsWindow
+    window-fits = leb→le n (length bytes) (and-l (leb n (length bytes)) (leb (k .count) 32 && taken) t)
+
+    pub clock-fits : k .count ≤ 32
+    clock-fits = leb→le (k .count) 32 (and-l (leb (k .count) 32) taken inner)
 
 -- ---- the order
 

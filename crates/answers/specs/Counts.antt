@@ -1,6 +1,6 @@
 -- The counts of constraints that listing, pruning and search hand on. Assumes nothing.
 --     Carried          what one function hands to another, as far as it counts constraints; of `search::prune`, `next_choice` and `order::lighter` what a turn hands to the next.        counts           the counts in it
---     Listed n         n constraints are listed of a log that Load takes, by `encoding::prepare`
+--     Listed n         n constraints are listed of a log that Load takes with its times, by `encoding::prepare`
 --     Handed n         what comes of them, step by step. A step from function to function asks what the function's contract says; one from turn to turn is the code's, and the loop's proof cites its law.
 use Prim.Native.Nat.{ℕ, _+_, _*_, _-_, _<_}
 use mathlib.Core.Path.{_≡_}
@@ -8,7 +8,7 @@ use mathlib.Core.List.{List, [], _∷_}
 use lib.ListN.{length}
 use Rattle.model.specs.declared.Constraint.{Constraint}
 use Rattle.model.specs.History.{History}
-use Rattle.model.specs.Log.{loadNumber, historyOf}
+use Rattle.model.specs.Times.{Times, timedNumber, timedHistory}
 use Rattle.model.specs.Polygraph.{constraints, pass}
 use Rattle.listing.specs.Candidates.{itemsBy}
 use Rattle.pruning.specs.declared.Place.{Place}
@@ -39,9 +39,10 @@ counts (found i) = i ∷ []
 
 pub record Listed (n : ℕ) : Type 0 where
   pub log : List ℕ
-  pub taken : loadNumber log ≡ 0
+  pub clock : Times
+  pub taken : timedNumber log clock ≡ 0
   pub encoding : ℕ
-  pub count : n ≡ length (constraints (historyOf log) encoding)
+  pub count : n ≡ length (constraints (timedHistory log clock) encoding)
 
 pub data Handed (n : ℕ) : Carried → Type 0 where
   -- what `encoding::prepare` gives, to all that follow

@@ -1,4 +1,4 @@
--- What Decide finds over a log that Load takes. Assumes nothing.
+-- What Decide finds over a log that Load takes with its times. Assumes nothing.
 use Prim.Native.Nat.{ℕ, _≤_}
 use mathlib.Core.Path.{_≡_}
 use mathlib.Core.Logic.{_≢_}

@@ -1,3 +1,4 @@
+pub mod Clocks
 pub mod Copies
 pub mod Counts
 pub mod Finding

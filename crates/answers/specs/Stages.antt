@@ -5,13 +5,16 @@ use mathlib.Core.List.{List}
 use lib.Dec.{eqb, leb, ltb}
 use lib.ListN.{length, take}
 use Rattle.model.specs.History.{isOrder}
-use Rattle.model.specs.Log.{transactionsIn, loadNumber}
+use Rattle.model.specs.Log.{transactionsIn}
+use Rattle.model.specs.Times.{timedNumber}
+use Rattle.answers.specs.declared.Clock.{Clock}
+use Rattle.answers.specs.Clocks.{timesIn}
 use Rattle.answers.specs.declared.Stage.{Stage}
 use Rattle.answers.specs.declared.Stage.the-variants.{Fresh, Loaded, Ordered, NoOrder}
 
--- Load would take what a case holds; a length over the room is more than it holds
-unfoldable pub holdsLog : List ℕ → ℕ → Bool
-holdsLog bytes n = leb n (length bytes) && eqb (loadNumber (take n bytes)) 0
+-- Load would take the log and the times that a case holds; a length over the room of either is more than it holds
+unfoldable pub holdsWindow : List ℕ → ℕ → Clock → Bool
+holdsWindow bytes n k = leb n (length bytes) && (leb (k .count) 32 && eqb (timedNumber (take n bytes) (timesIn k)) 0)
 
 -- the order that a case claims is every number below T once
 unfoldable pub claimsOrder : List ℕ → ℕ → List ℕ → Bool

@@ -28,6 +28,18 @@ pub fn copy_values(from: &[u16], n: usize, out: &mut [u16])
     }
 }
 
+// The same of seconds, of 32 bits.
+pub fn copy_seconds(from: &[u32], n: usize, out: &mut [u32])
+    requires { ⌜ (n ≤ length (now from)) × (n ≤ length (now out)) ⌝ }
+    ensures { λ _. ⌜ now (out .exit) ≡ copied n (now (from .entry)) (now (out .entry)) ⌝ }
+{
+    let mut i: usize = 0;
+    while i < n {
+        out[i] = from[i];
+        i += 1;
+    }
+}
+
 // The row words go into the first 32 places.
 pub fn copy_rows(from: [u32; 32], out: &mut [u32])
     requires { ⌜ 32 ≤ length (now out) ⌝ }

@@ -1,10 +1,10 @@
-// What Decide finds over the bytes of a log that Load takes, without a list of constraints: one way for the call on the case and for the functions for C.
+// What Decide finds over the bytes of a log that Load takes with its times, without a list of constraints: one way for the call on the case and for the functions for C.
 ghost use mathlib.Core.Path.{_≡_};
 ghost use mathlib.Core.Bool.{true};
 ghost use mathlib.Core.Logic.{_⊎_};
 ghost use mathlib.Core.List.{List};
 ghost use Prim.Native.Nat.{ℕ, _≤_};
-ghost use Rattle.model.specs.Log.{loadNumber, historyOf};
+ghost use Rattle.model.specs.Times.{times, timedNumber, timedHistory};
 ghost use Rattle.model.specs.Polygraph.{reach};
 ghost use Rattle.model.specs.RowWords.{Tidy};
 ghost use Rattle.listing.specs.Candidates.{itemsBy};
@@ -71,6 +71,9 @@ fn pruning_needed(pruning: u8, listed: bool, closed: [u32; 32]) -> u8
 // What Decide finds for a list of so many places. The tables and the candidates' numbers are lent: where a list is to be written, the constraints left stand in them.
 pub fn decided(
     log: &[u8],
+    begin: &[u32],
+    end: &[u32],
+    drift: u32,
     encoding: u8,
     pruning: u8,
     places: usize,
@@ -78,14 +81,14 @@ pub fn decided(
     tables: &mut [u32; WORDS],
     chosen: &mut [u16; PLACES],
 ) -> Outcome
-    requires { ⌜ (loadNumber (now log) ≡ 0) × Space (now tables) (now chosen) ⌝ }
-    ensures { λ r. ⌜ Finds (polygraphRefusal (historyOf (now (log .entry))) encoding pruning places 32) (historyOf (now (log .entry))) encoding pruning places listed (now (tables .exit)) (now (chosen .exit)) r ⌝ }
+    requires { ⌜ (timedNumber (now log) (times (now begin) (now end) drift) ≡ 0) × Space (now tables) (now chosen) ⌝ }
+    ensures { λ r. ⌜ Finds (polygraphRefusal (timedHistory (now (log .entry)) (times (now (begin .entry)) (now (end .entry)) drift)) encoding pruning places 32) (timedHistory (now (log .entry)) (times (now (begin .entry)) (now (end .entry)) drift)) encoding pruning places listed (now (tables .exit)) (now (chosen .exit)) r ⌝ }
 {
     let setting = setting_refusal(encoding, pruning);
     if setting != 0 {
         return refused(setting);
     }
-    let known = encoding::prepare(log, encoding, tables, chosen);
+    let known = encoding::prepare(log, begin, end, drift, encoding, tables, chosen);
     let count = known.count;
     let number = places_refusal(count, places, 32);
     if number != 0 {

@@ -1,9 +1,10 @@
-// The answers of the calls, over plain parts: a log's bytes, a stage, an order, lists of numbers. `checker` takes a case apart and calls these.
-// `windows` has Load's number, `deciding` is what Decide finds, `stages` finds the stage that a case counts as, `settings` tests a setting and the places of lists, `judging` judges a proposed order,
+// The answers of the calls, over plain parts: a log's bytes, its times, a stage, an order, lists of numbers. `checker` takes a case apart and calls these.
+// `windows` has Load's number, `clocks` the times as a case keeps them, `deciding` is what Decide finds, `stages` finds the stage that a case counts as, `settings` tests a setting and the places of lists, `judging` judges a proposed order,
 // `results` is for Order and Table, and `copies` puts the numbers of one list into another.
 ghost use mathlib.Core.Path.{_≡_};
 ghost use Rattle.answers.specs.Numbers.{numberOf};
 
+pub mod clocks;
 pub mod copies;
 pub mod deciding;
 pub mod judging;
@@ -18,6 +19,15 @@ pub enum Stage {
     Loaded,
     Ordered,
     NoOrder,
+}
+
+// The times of a window as a case keeps them: how many entries each list has, the begins and the ends, and the drift. Load leaves zeros behind the entries; what stands
+// there plays no part. A window without times has no entries.
+pub struct Clock {
+    pub count: usize,
+    pub begin: [u32; 32],
+    pub end: [u32; 32],
+    pub drift: u32,
 }
 
 // The answer of a call that gives no number or yes or no: done, or refused with document 01's number.

@@ -2,7 +2,7 @@
 use Prim.Native.Nat.{ℕ, _-_, _≤_}
 use native.Mathlib.Omega.{arith}
 use mathlib.Core.Path.{_≡_, refl, sym, ap, ap₂, subst, _∙_}
-use mathlib.Core.Logic.{_≢_}
+use mathlib.Core.Logic.{⊎-elim, _≢_}
 use mathlib.Core.Bool.{Bool, true, false, cond, _&&_}
 use mathlib.Core.List.{List, _++_}
 use mathlib.Core.Option.{Option, none, some}
@@ -10,17 +10,21 @@ use lib.Dec.{T, eqb, ltb, leb, le→leb, ltb→lt}
 use lib.ListN.{length, take, drop, replicate, length-append}
 use lib.Seq.{take-at}
 use Rattle.model.specs.History.{size, isOrder, legal, replay}
-use Rattle.model.specs.Window.{Window, window}
-use Rattle.model.specs.Log.{loadNumber, transactionsIn}
+use Rattle.model.specs.Window.{Window, window, windowNumber}
+use Rattle.model.specs.Log.{transactionsIn}
+use Rattle.model.specs.Times.{Times, timedNumber}
 use Rattle.model.specs.Lent.{orderNumbers, writtenOrder, writtenTable}
 use Rattle.model.proofs.Basics.{true-eq, false-eq, ne-eqb, eq-eqb, not-intro, and-in}
-use Rattle.model.proofs.Loaded.{history-size}
+use Rattle.model.proofs.Times.{timed-log-size, timed-times, times-short}
+use Rattle.model.proofs.Windows.{taken-timed}
+use Rattle.answers.specs.Clocks.{timesIn, clockOf}
+use Rattle.answers.proofs.Rooms.{times-back}
 use Rattle.model.proofs.First.{legal-length, legal-order}
 use Rattle.answers.specs.declared.Stage.{Stage}
 use Rattle.answers.specs.declared.Stage.the-variants.{Loaded, Ordered, NoOrder}
 use Rattle.checker.specs.declared.Case.{Case}
 use Rattle.checker.specs.Cases.{contents, windowIn, historyIn, orderIn, stageOf, inRoom, loadedCase}
-use Rattle.answers.specs.Stages.{holdsLog, claimsOrder, counted, isFresh}
+use Rattle.answers.specs.Stages.{holdsWindow, claimsOrder, counted, isFresh}
 use Rattle.checker.specs.Decisions.{decideRefusal, decidedCase}
 use Rattle.checker.specs.Encodings.{encodeRefusal}
 use Rattle.checker.specs.Results.{orderRefused, tableRefused, orderLeft, tableLeft}
@@ -50,25 +54,37 @@ pub load-holds : (w : Window) → contents (loadedCase w) ≡ w .bytes
 unfolding loadedCase
 load-holds w = loaded-contents (w .bytes)
 
-pub load-window : (w : Window) → windowIn (loadedCase w) ≡ w
-unfolding loadedCase
-load-window w = ap (λ b. window b (w .starting)) (loaded-contents (w .bytes))
+-- with the times of a window that Load takes, whose lists have as many entries
+load-times : (w : Window) → windowNumber w ≡ 0 → timesIn (clockOf (w .clock)) ≡ w .clock
+load-times w e =
+    times-back (w .clock) (⊎-elim (λ l. l .0 ∙ sym (l .1)) (λ l. l .0 ∙ sym (l .1)) (timed-times (w .bytes) (w .clock) (taken-timed w e) .lengths))
 
-pub load-stage : (w : Window) → loadNumber (w .bytes) ≡ 0 → stageOf (loadedCase w) ≡ Loaded
-unfolding stageOf loadedCase counted holdsLog inRoom
+pub load-window : (w : Window) → windowNumber w ≡ 0 → windowIn (loadedCase w) ≡ w
+unfolding loadedCase
+load-window w e = ap₂ (λ (b : List ℕ) (ts : Times). window b (w .starting) ts) (loaded-contents (w .bytes)) (load-times w e)
+
+pub load-stage : (w : Window) → windowNumber w ≡ 0 → stageOf (loadedCase w) ≡ Loaded
+unfolding stageOf loadedCase counted holdsWindow inRoom clockOf
 load-stage w e =
-    ap (λ (x : Bool). counted Loaded x (claimsOrder (inRoom b) (length b) (replicate 32 0))) (true-eq (holdsLog (inRoom b) (length b)) holds)
+    ap (λ (x : Bool). counted Loaded x (claimsOrder (inRoom b) (length b) (replicate 32 0))) (true-eq (holdsWindow (inRoom b) (length b) (clockOf ts)) holds)
   where
     b : List ℕ
     b = w .bytes
 
+    ts : Times
+    ts = w .clock
+
     long : length b ≤ length (inRoom b)
     long = omega (arith, length-append b (replicate (1156 - length b) 0))
 
-    holds : T (leb (length b) (length (inRoom b)) && eqb (loadNumber (take (length b) (inRoom b))) 0)
+    number : ℕ
+    number = timedNumber (take (length b) (inRoom b)) (timesIn (clockOf ts))
+
+    holds : T (leb (length b) (length (inRoom b)) && (leb (length (ts .begins)) 32 && eqb number 0))
     holds =
-        and-in (leb (length b) (length (inRoom b))) (eqb (loadNumber (take (length b) (inRoom b))) 0) (le→leb (length b) (length (inRoom b)) long)
-        (subst (λ x. T (eqb x 0)) (sym (ap loadNumber (loaded-contents b) ∙ e)) tt)
+        and-in (leb (length b) (length (inRoom b))) (leb (length (ts .begins)) 32 && eqb number 0) (le→leb (length b) (length (inRoom b)) long)
+        (and-in (leb (length (ts .begins)) 32) (eqb number 0) (le→leb (length (ts .begins)) 32 (times-short b ts (taken-timed w e) .0))
+        (subst (λ x. T (eqb x 0)) (sym (ap₂ timedNumber (loaded-contents b) (load-times w e) ∙ taken-timed w e)) tt))
 
 -- ---- the case that Decide leaves
 
@@ -85,7 +101,7 @@ decided-window c answer = refl
 pub none-stage : (c : Case) → isFresh (stageOf c) ≡ false → stageOf (decidedCase c none) ≡ NoOrder
 unfolding stageOf decidedCase counted
 none-stage c e =
-    ap (λ (x : Bool). counted NoOrder x (claimsOrder (c .bytes) (c .length) (orderNumbers none))) (true-eq (holdsLog (c .bytes) (c .length)) (case-holds c e))
+    ap (λ (x : Bool). counted NoOrder x (claimsOrder (c .bytes) (c .length) (orderNumbers none))) (true-eq (holdsWindow (c .bytes) (c .length) (c .clock)) (case-holds c e))
 
 -- a case that counts as decided with an order: there is 25 alone, and what Order and Table leave is the order and its table
 module _ (c : Case) (ordered : stageOf c ≡ Ordered) where
@@ -105,15 +121,15 @@ module _ (c : Case) (o : List ℕ) (e : isFresh (stageOf c) ≡ false) (l : T (l
   -- the T numbers that are claimed are the order
   pub some-order : orderIn (decidedCase c (some o)) ≡ o
   unfolding decidedCase
-  some-order = ap (λ n. take n (orderNumbers (some o))) (sym (history-size (contents c))) ∙ numbers-of (historyIn c) o l
+  some-order = ap (λ n. take n (orderNumbers (some o))) (sym (timed-log-size (contents c) (timesIn (c .clock)))) ∙ numbers-of (historyIn c) o l
 
   -- after an order it counts as decided with it
   pub some-stage : stageOf (decidedCase c (some o)) ≡ Ordered
   unfolding stageOf decidedCase counted claimsOrder
   some-stage =
-      ap₂ (counted Ordered) (true-eq (holdsLog (c .bytes) (c .length)) (case-holds c e))
+      ap₂ (counted Ordered) (true-eq (holdsWindow (c .bytes) (c .length) (c .clock)) (case-holds c e))
       (true-eq (isOrder n (take n (orderNumbers (some o))))
-      (subst (λ m. T (isOrder m (take m (orderNumbers (some o))))) (history-size (contents c))
+      (subst (λ m. T (isOrder m (take m (orderNumbers (some o))))) (timed-log-size (contents c) (timesIn (c .clock)))
       (subst (λ p. T (isOrder (size (historyIn c)) p)) (sym (numbers-of (historyIn c) o l)) (legal-order (historyIn c) o l))))
     where
       n : ℕ
@@ -127,7 +143,7 @@ module _ (c : Case) (o : List ℕ) (e : isFresh (stageOf c) ≡ false) (l : T (l
       ∙ ap₂ (λ (x : List ℕ) (m : ℕ). x ++ drop m ys) some-order (sym len)
     where
       len : length o ≡ transactionsIn (contents c)
-      len = legal-length (historyIn c) o l ∙ history-size (contents c)
+      len = legal-length (historyIn c) o l ∙ timed-log-size (contents c) (timesIn (c .clock))
 
   pub table-writes : (ys : List ℕ) → 32 ≤ length ys → tableLeft (decidedCase c (some o)) ys ≡ replay (historyIn c) (c .starting) o ++ drop 32 ys
   unfolding writtenTable decidedCase

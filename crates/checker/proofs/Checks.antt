@@ -6,7 +6,8 @@ use mathlib.Core.List.{List}
 use lib.Dec.{eqb}
 use Rattle.model.specs.History.{size, legal}
 use Rattle.model.specs.Log.{transactionsIn}
-use Rattle.model.proofs.Loaded.{history-size}
+use Rattle.model.proofs.Times.{timed-log-size}
+use Rattle.answers.specs.Clocks.{timesIn}
 use Rattle.checker.specs.declared.Case.{Case}
 use Rattle.answers.specs.declared.Judgement.{Judgement}
 use Rattle.answers.specs.declared.Judgement.the-variants.{Refused}
@@ -31,7 +32,7 @@ module _ (c : Case) (o : List ℕ) where
 
   refusal-loaded : isFresh (stageOf c) ≡ false → checkRefusal c o ≡ orderRefusal (transactionsIn (contents c)) o
   unfolding checkRefusal
-  refusal-loaded e = ap₂ (λ b n. cond b 22 (orderRefusal n o)) e (history-size (contents c))
+  refusal-loaded e = ap₂ (λ b n. cond b 22 (orderRefusal n o)) e (timed-log-size (contents c) (timesIn (c .clock)))
 
   pub check-loaded : isFresh (stageOf c) ≡ false → judgementOf (orderRefusal (transactionsIn (contents c)) o) (legal (historyIn c) o) ≡ judgementOf (checkRefusal c o) (checkYes c o)
   unfolding checkYes

@@ -23,6 +23,7 @@ use Rattle.checker.specs.declared.polygraphs.Planning.{Planning}
 use Rattle.checker.specs.Cases.{contents, historyIn, stageOf}
 use Rattle.answers.specs.Stages.{isFresh}
 use Rattle.answers.specs.Copies.{copied}
+use Rattle.answers.specs.Clocks.{timesIn}
 use Rattle.answers.specs.Numbers.{numberOf, replyOf}
 use Rattle.checker.specs.Encodings.{encodeRefusal, encodeAnswer, encodeList, encodeRows, Encodes, Plans}
 use Rattle.answers.specs.Settings.{settingRefusal, placesRefusal, polygraphRefusal}
@@ -54,7 +55,7 @@ module _ (c : Case) (e pruning places words : ℕ) where
   pub enough-places : isFresh (stageOf c) ≡ false → 4096 ≤ places → 32 ≤ words → encodeRefusal c e pruning places words ≡ settingRefusal e pruning
   unfolding encodeRefusal
   enough-places p l m =
-      ap (λ (f : Bool). cond f 22 (polygraphRefusal (historyIn c) e pruning places words)) p ∙ enough-for-a-log (contents c) (case-loads c p) e pruning places words l m
+      ap (λ (f : Bool). cond f 22 (polygraphRefusal (historyIn c) e pruning places words)) p ∙ enough-for-a-log (contents c) (timesIn (c .clock)) (case-loads c p) e pruning places words l m
 
   refused : (r : Planning) → r .number ≡ encodeRefusal c e pruning places words → r .number ≢ 0 → Plans c e pruning places words r
   refused r is ne = record { number-is = is; plan = λ z. absurd (ne z); ready = λ z. absurd (ne z); room = λ z. absurd (ne z) }

@@ -9,6 +9,7 @@ pub mod Verdicts
 pub mod Chain
 pub mod Whole
 pub mod Starting
+pub mod Timing
 pub mod Demands
 pub mod Preparing
 pub mod Lending

@@ -8,12 +8,14 @@ use lib.Dec.{eqb}
 use lib.ListN.{length, getD, drop, List·getD-append}
 use Rattle.model.specs.History.{History, start, lastWriter, replay, valueOf}
 use Rattle.model.specs.Log.{loadNumber}
+use Rattle.model.specs.Times.{Times}
 use Rattle.model.specs.Window.{Window, window, zeros, fromZeros}
 use Rattle.model.specs.Lent.{encodedCount, writtenTable}
 use Rattle.model.specs.Search.{firstLegal}
 use Rattle.model.proofs.Windows.{number-of-log, number-of-zeros}
 use Rattle.model.proofs.Values.{replay-at, replay-long}
-use Rattle.model.proofs.Loaded.{loadable-log}
+use Rattle.model.proofs.Times.{loadable-timed}
+use Rattle.answers.specs.Clocks.{timesIn}
 use Rattle.answers.specs.declared.Stage.the-variants.{Ordered}
 use Rattle.answers.specs.Stages.{isFresh}
 use Rattle.checker.specs.declared.Case.{Case}
@@ -24,7 +26,7 @@ use Rattle.checker.specs.Encodings.{encodeRefusal, encodeAnswer, encodeL
 use Rattle.checker.specs.Decisions.{decideRefusal, decidedCase, decided, refusedDecision, deciding, listAfterDecide}
 use Rattle.checker.specs.Results.{orderRefused, orderLeft, tableRefused, tableLeft}
 use Rattle.checker.specs.Starting.{SameButForTable}
-use Rattle.checker.proofs.Holding.{case-loads}
+use Rattle.checker.proofs.Holding.{case-timed}
 use Rattle.checker.proofs.Chain.{taken, table-left}
 
 -- what a decision of either case holds, by whether it is refused
@@ -83,18 +85,22 @@ pub decided-keeps : (c : Case) (e pruning places : ℕ) → deciding c e pruning
 unfolding decided decidedCase refusedDecision
 decided-keeps c e pruning places = part c (c .starting) (λ x. x .case .starting) (λ x. c .starting) e pruning places refl refl
 
+pub decided-clock : (c : Case) (e pruning places : ℕ) → deciding c e pruning places .case .clock ≡ c .clock
+unfolding decided decidedCase refusedDecision
+decided-clock c e pruning places = part c (c .starting) (λ x. x .case .clock) (λ x. c .clock) e pruning places refl refl
+
 -- ---- Load
 
-module _ (c : Case) (b s table : List ℕ) (long : length s ≡ 32) (long′ : length table ≡ 32) where
-  pub load-number-alike : loadRefusal c (window b table) ≡ loadRefusal c (window b s)
+module _ (c : Case) (b s table : List ℕ) (ts : Times) (long : length s ≡ 32) (long′ : length table ≡ 32) where
+  pub load-number-alike : loadRefusal c (window b table ts) ≡ loadRefusal c (window b s ts)
   unfolding loadRefusal
-  load-number-alike = ap (λ n. cond (isFresh (stageOf c)) n 21) (number-of-log (window b table) long′ ∙ sym (number-of-log (window b s) long))
+  load-number-alike = ap (λ n. cond (isFresh (stageOf c)) n 21) (number-of-log (window b table ts) long′ ∙ sym (number-of-log (window b s ts) long))
 
-  pub load-alike : loadRefusal c (window b s) ≡ 0 → caseAfterLoad c (window b table) ≡ withStarting (caseAfterLoad c (window b s)) table
+  pub load-alike : loadRefusal c (window b s ts) ≡ 0 → caseAfterLoad c (window b table ts) ≡ withStarting (caseAfterLoad c (window b s ts)) table
   unfolding caseAfterLoad loadedCase
   load-alike runs =
-      taken (loadRefusal c (window b table)) (loadedCase (window b table)) c (load-number-alike ∙ runs)
-      ∙ sym (ap (λ (x : Case). withStarting x table) (taken (loadRefusal c (window b s)) (loadedCase (window b s)) c runs))
+      taken (loadRefusal c (window b table ts)) (loadedCase (window b table ts)) c (load-number-alike ∙ runs)
+      ∙ sym (ap (λ (x : Case). withStarting x table) (taken (loadRefusal c (window b s ts)) (loadedCase (window b s ts)) c runs))
 
 module _ (c : Case) (b : List ℕ) where
   pub zeros-number : loadRefusal c (fromZeros b) ≡ cond (isFresh (stageOf c)) (loadNumber b) 21
@@ -127,4 +133,4 @@ module _ (c : Case) (ordered : stageOf c ≡ Ordered) (long : length (c .startin
   table-at =
       ap (λ l. getD l k 0) (table-left c ordered ys room)
       ∙ List·getD-append (replay h (c .starting) (orderIn c)) (drop 32 ys) 0 k (omega (arith, long, low, replay-long h (c .starting) (orderIn c)))
-      ∙ replay-at h k (loadable-log (contents c) (case-loads c (ap isFresh ordered)) .few) (orderIn c) (c .starting) (omega (arith, long, low))
+      ∙ replay-at h k (loadable-timed (contents c) (timesIn (c .clock)) (case-timed c (ap isFresh ordered)) .few) (orderIn c) (c .starting) (omega (arith, long, low))

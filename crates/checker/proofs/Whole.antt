@@ -19,8 +19,8 @@ use Rattle.model.specs.Lent.{orderNumbers, encodedList, encodedRows, encodedCou
 use Rattle.model.specs.Search.{firstLegal}
 use Rattle.model.proofs.Words.{length-upTo}
 use Rattle.model.proofs.First.{first-some, first-none, legal-length}
-use Rattle.model.proofs.Loaded.{loadable-log, history-size}
-use Rattle.model.proofs.Windows.{taken-log}
+use Rattle.model.proofs.Times.{loadable-timed, timed-log-size}
+use Rattle.answers.specs.Clocks.{timesIn}
 use Rattle.model.proofs.Selection.{serializable}
 use Rattle.answers.specs.declared.Stage.{Stage}
 use Rattle.answers.specs.declared.Stage.the-variants.{Fresh, Loaded, Ordered, NoOrder}
@@ -36,7 +36,7 @@ use Rattle.answers.specs.Settings.{settingRefusal}
 use Rattle.checker.specs.Decisions.{decideRefusal, verdictFor, decidedCase, decided, refusedDecision, deciding, listAfterDecide}
 use Rattle.checker.specs.Results.{orderRefused, tableRefused}
 use Rattle.checker.specs.Demand.{inLists, handedOut, Serializable, IsFirst, Settles, SameAnswer}
-use Rattle.checker.proofs.Holding.{case-loads}
+use Rattle.checker.proofs.Holding.{case-timed}
 use Rattle.checker.proofs.Verdicts.{numbers-of}
 use Rattle.checker.proofs.Loads.{refusal-none}
 use Rattle.checker.proofs.Chain.{taken, load-window, load-stage, encode-held, not-refused, decided-contents, decided-window, none-stage, some-stage, order-writes, table-writes}
@@ -126,7 +126,7 @@ module _ (c : Case) (e pruning : ℕ) (ys : List Constraint) (ws : List ℕ) (ru
   pub lists-select : Serializable h ↔ AcyclicSelection (handedOut c e pruning ys ws)
   lists-select =
       subst (λ (p : Polygraph). Serializable h ↔ AcyclicSelection p) (sym lists-hold)
-      (serializable h (loadable-log (contents c) (case-loads c (encode-held c e pruning (length ys) (length ws) runs))) e pruning (in-range c e pruning (length ys) (length ws) runs))
+      (serializable h (loadable-timed (contents c) (timesIn (c .clock)) (case-timed c (encode-held c e pruning (length ys) (length ws) runs))) e pruning (in-range c e pruning (length ys) (length ws) runs))
 
 -- ---- Decide
 
@@ -186,7 +186,7 @@ module _ (c : Case) (n : ℕ) (held : isFresh (stageOf c) ≡ false) where
       room : (out : List ℕ) → orderRefused (decidedCase c (some o)) (length out) ≡ 0 → length o ≤ length out
       room out r =
           let fits = refused-none _ _ _ r .room in
-          omega (arith, fits, legal-length hc o l, history-size (contents c), ap transactionsIn (decided-contents c (some o)))
+          omega (arith, fits, legal-length hc o l, timed-log-size (contents c) (timesIn (c .clock)), ap transactionsIn (decided-contents c (some o)))
 
   pub decided-settles : Settles (windowIn c) (decided c (firstLegal hc) n)
   decided-settles = go (firstLegal hc) refl
@@ -265,7 +265,7 @@ module _ (c : Case) (w : Window) (runs : loadRefusal c w ≡ 0) where
   after-load = taken (loadRefusal c w) (loadedCase w) c runs
 
   pub load-counts : stageOf (caseAfterLoad c w) ≡ Loaded
-  load-counts = ap stageOf after-load ∙ load-stage w (taken-log w (refusal-none c w runs))
+  load-counts = ap stageOf after-load ∙ load-stage w (refusal-none c w runs)
 
   pub after-load-holds : windowIn (caseAfterLoad c w) ≡ w
-  after-load-holds = ap windowIn after-load ∙ load-window w
+  after-load-holds = ap windowIn after-load ∙ load-window w (refusal-none c w runs)

@@ -3,12 +3,14 @@ use Prim.Native.Nat.{ℕ, _≤_}
 use mathlib.Core.Path.{_≡_, sym, ap, ap₂, _∙_}
 use mathlib.Core.Logic.{_≢_}
 use mathlib.Core.Bool.{true, cond}
-use mathlib.Core.List.{List}
+use mathlib.Core.List.{List, _++_}
 use lib.Dec.{T, eqb}
-use lib.ListN.{length, take}
+use lib.ListN.{length, take, drop}
 use borrow.Author.Tests.{eq-eqb, ne-eqb}
-use Rattle.model.specs.History.{isOrder}
-use Rattle.model.specs.Log.{transactionsIn}
+use Rattle.model.specs.History.{isOrder, replay}
+use Rattle.model.specs.Log.{transactionsIn, historyOf}
+use Rattle.model.proofs.Times.{timed-table}
+use Rattle.answers.specs.Clocks.{timesIn}
 use Rattle.model.specs.Lent.{writtenOrder, writtenTable}
 use Rattle.answers.specs.declared.Stage.{Stage}
 use Rattle.answers.specs.declared.Stage.the-variants.{Ordered}
@@ -17,7 +19,7 @@ use Rattle.checker.specs.declared.Answer.{Answer}
 use Rattle.answers.specs.declared.Reply.{Reply}
 use Rattle.answers.specs.declared.Reply.the-variants.{Taken, Refused}
 use Rattle.checker.specs.Cases.{contents, historyIn, orderIn, stageOf}
-use Rattle.answers.specs.Stages.{holdsLog, claimsOrder, isFresh}
+use Rattle.answers.specs.Stages.{holdsWindow, claimsOrder, isFresh}
 use Rattle.answers.specs.Copies.{copied}
 use Rattle.answers.specs.Numbers.{replyOf}
 use Rattle.checker.specs.Results.{orderRefused, tableRefused, replying, orderLeft, tableLeft}
@@ -30,12 +32,12 @@ use Rattle.answers.proofs.Holding.{counted-ordered, refused-fresh, refused-none
 
 module _ (c : Case) where
   module _ (e : stageOf c ≡ Ordered) where
-    pub ordered-holds : T (holdsLog (c .bytes) (c .length))
+    pub ordered-holds : T (holdsWindow (c .bytes) (c .length) (c .clock))
     ordered-holds = case-holds c (ap isFresh e)
 
     pub ordered-order : T (isOrder (transactionsIn (contents c)) (orderIn c))
     unfolding stageOf claimsOrder
-    ordered-order = counted-ordered (c .stage) (holdsLog (c .bytes) (c .length)) (claimsOrder (c .bytes) (c .length) (c .order)) e
+    ordered-order = counted-ordered (c .stage) (holdsWindow (c .bytes) (c .length) (c .clock)) (claimsOrder (c .bytes) (c .length) (c .order)) e
 
   module _ (places : ℕ) where
     pub order-stage : orderRefused c places ≡ 0 → stageOf c ≡ Ordered
@@ -109,5 +111,9 @@ module _ (c : Case) where
     unfolding writtenOrder
     order-written n zs p e = e ∙ ap (λ k. copied k (c .order) ys) p
 
-    pub table-written : (n : ℕ) (zs : List ℕ) → n ≡ transactionsIn (contents c) → zs ≡ writtenTable (historyIn c) (c .starting) (take n (c .order)) ys → zs ≡ writtenTable (historyIn c) (c .starting) (orderIn c) ys
-    table-written n zs p e = e ∙ ap (λ k. writtenTable (historyIn c) (c .starting) (take k (c .order)) ys) p
+    -- the table of the log is that of the log with its times
+    pub table-written : (n : ℕ) (zs : List ℕ) → n ≡ transactionsIn (contents c) → zs ≡ writtenTable (historyOf (contents c)) (c .starting) (take n (c .order)) ys → zs ≡ writtenTable (historyIn c) (c .starting) (orderIn c) ys
+    unfolding writtenTable
+    table-written n zs p e =
+        e ∙ ap (λ k. replay (historyOf (contents c)) (c .starting) (take k (c .order)) ++ drop 32 ys) p
+        ∙ ap (λ t. t ++ drop 32 ys) (sym (timed-table (timesIn (c .clock)) (historyOf (contents c)) (c .starting) (orderIn c)))

@@ -12,7 +12,7 @@ use Rattle.checker.specs.Cases.{historyIn, stageOf, loadedCase}
 use Rattle.answers.specs.Stages.{isFresh, orderRefusal}
 use Rattle.answers.specs.Numbers.{replyOf, judgementOf}
 
--- Load tests 21, a case not fresh, then what `windowNumber` tests, in turn: 36, then the log.
+-- Load tests 21, a case not fresh, then what `windowNumber` tests, in turn: 36, then the log, then its times.
 unfoldable pub loadRefusal : Case → Window → ℕ
 loadRefusal c w = cond (isFresh (stageOf c)) (windowNumber w) 21
 

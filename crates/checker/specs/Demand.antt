@@ -1,5 +1,5 @@
 -- Demand 3 in one piece, over what the calls give and leave: what Encode's two lists hold, what Decide answers in every setting and again, and
--- what Order and Table then write; from the log's bytes and the starting table on. `demand-3` in proofs/Demands.antt proves it. Assumes nothing.
+-- what Order and Table then write; from the log's bytes, the starting table and the times on. `demand-3` in proofs/Demands.antt proves it. Assumes nothing.
 use Prim.Native.Nat.{ℕ}
 use mathlib.Core.Path.{_≡_}
 use mathlib.Core.Logic.{_⊎_, _↔_}
@@ -73,8 +73,8 @@ pub record Whole (c : Case) (e pruning : ℕ) (ys : List Constraint) (ws : List 
       (e′ pruning′ places : ℕ) → decideRefusal (d .case) e′ pruning′ places ≡ 0 → let d′ = deciding (d .case) e′ pruning′ places in
       (windowIn (d .case) ≡ windowIn c) × Settles (windowIn c) d′ × SameAnswer d d′
 
--- From bytes to bytes: after Load, where it isn't refused, the case counts as loaded and holds the window that Load took, the log's bytes and the
--- starting table; so what Decide, Order and Table then give and write is said of these.
+-- From bytes to bytes: after Load, where it isn't refused, the case counts as loaded and holds the window that Load took, the log's bytes, the
+-- starting table and the times; so what Decide, Order and Table then give and write is said of these.
 pub record FromBytes (c : Case) (w : Window) : Type 0 where
   pub loaded : stageOf (caseAfterLoad c w) ≡ Loaded
   pub holds : windowIn (caseAfterLoad c w) ≡ w

@@ -9,9 +9,11 @@ use lib.ListN.{length, drop, replicate}
 use Rattle.model.specs.declared.Constraint.{Constraint}
 use Rattle.model.specs.History.{replay}
 use Rattle.model.specs.Log.{loadNumber}
+use Rattle.model.specs.Times.{Times}
 use Rattle.model.specs.Window.{Window, window, fromZeros}
 use Rattle.answers.specs.declared.Stage.the-variants.{Loaded}
 use Rattle.answers.specs.Stages.{isFresh}
+use Rattle.answers.specs.Clocks.{noClock}
 use Rattle.checker.specs.declared.Case.{Case}
 use Rattle.checker.specs.Cases.{historyIn, orderIn, stageOf, inRoom, loadedCase, withStarting}
 use Rattle.checker.specs.Calls.{loadRefusal, caseAfterLoad, checking}
@@ -39,23 +41,23 @@ pub record SameButForTable (c d : Case) : Type 0 where
   pub table-number : (places : ℕ) → tableRefused d places ≡ tableRefused c places
 
 -- The starting table decides nothing: a case and the same with another table have the same answers, and so have the cases that Decide leaves of them, which
--- again differ in the table alone; Load leaves the same case of both where it takes a window, and else each as it was; and Load of one log beside two tables of
+-- again differ in the table alone; Load leaves the same case of both where it takes a window, and else each as it was; and Load of one log with its times beside two tables of
 -- 32 values has one number, and leaves cases that differ in the table alone.
 pub record Indifferent : Type 0 where
   pub answers : (c : Case) (table : List ℕ) → SameButForTable c (withStarting c table)
   pub decided : (c : Case) (table : List ℕ) (e pruning places : ℕ) → deciding (withStarting c table) e pruning places .case ≡ withStarting (deciding c e pruning places .case) table
   pub replaced : (c : Case) (table : List ℕ) (w : Window) → caseAfterLoad (withStarting c table) w ≡ cond (eqb (loadRefusal c w) 0) (loadedCase w) (withStarting c table)
-  pub number : (c : Case) (b s table : List ℕ) → length s ≡ 32 → length table ≡ 32 → loadRefusal c (window b table) ≡ loadRefusal c (window b s)
-  pub loaded : (c : Case) (b s table : List ℕ) → length s ≡ 32 → length table ≡ 32 → loadRefusal c (window b s) ≡ 0
-      → caseAfterLoad c (window b table) ≡ withStarting (caseAfterLoad c (window b s)) table
+  pub number : (c : Case) (b s table : List ℕ) (ts : Times) → length s ≡ 32 → length table ≡ 32 → loadRefusal c (window b table ts) ≡ loadRefusal c (window b s ts)
+  pub loaded : (c : Case) (b s table : List ℕ) (ts : Times) → length s ≡ 32 → length table ≡ 32 → loadRefusal c (window b s ts) ≡ 0
+      → caseAfterLoad c (window b table ts) ≡ withStarting (caseAfterLoad c (window b s ts)) table
 
--- Loading 32 zeros is what Load was before it took a table: 21, then the log's number; the same case, with zeros for its table; and where Decide is then made,
--- in any setting, what Table writes of the case that it leaves is what it wrote then: the replay from zeros. What the other calls give of that case hangs on its other
+-- Loading 32 zeros, without times, is what Load was before it took a table: 21, then the log's number; the same case, with zeros for its table (and, since card 7, no
+-- times in it); and where Decide is then made, in any setting, what Table writes of the case that it leaves is what it wrote then: the replay from zeros. What the other calls give of that case hangs on its other
 -- fields (`Indifferent`), by the definitions that they had; whose order it is says `FromBytes`.
 pub record AsBefore (c : Case) (b : List ℕ) : Type 0 where
   pub number : loadRefusal c (fromZeros b) ≡ cond (isFresh (stageOf c)) (loadNumber b) 21
   pub case : caseAfterLoad c (fromZeros b)
       ≡ cond (eqb (cond (isFresh (stageOf c)) (loadNumber b) 21) 0)
-      (record { stage = Loaded; bytes = inRoom b; length = length b; starting = replicate 32 0; order = replicate 32 0 }) c
+      (record { stage = Loaded; bytes = inRoom b; length = length b; starting = replicate 32 0; clock = noClock; order = replicate 32 0 }) c
   pub table : loadRefusal c (fromZeros b) ≡ 0 → (e pruning places : ℕ) (ys : List ℕ) → let d = deciding (caseAfterLoad c (fromZeros b)) e pruning places .case in
       tableLeft d ys ≡ cond (eqb (tableRefused d (length ys)) 0) (replay (historyIn d) (replicate 32 0) (orderIn d) ++ drop 32 ys) ys

@@ -39,7 +39,7 @@ fn nothing(number: u8) -> Prepared
     }
 }
 
-// What is found out for a list of so many places: 22, then what the log's bytes give.
+// What is found out for a list of so many places: 22, then what the log and its times give.
 pub(crate) fn prepare(c: Case, encoding: u8, pruning: u8, places: usize) -> Prepared
     ensures { λ r. ⌜ Finds (decideRefusal c encoding pruning places) (historyIn c) encoding pruning places true (r .plan .tables) (r .plan .chosen) (outcomeIn r) ⌝ }
 {
@@ -50,8 +50,15 @@ pub(crate) fn prepare(c: Case, encoding: u8, pruning: u8, places: usize) -> Prep
     let length = c.length;
     let mut tables = [0u32; WORDS];
     let mut chosen = [0u16; PLACES];
+    let clock = c.clock;
+    let count = clock.count;
+    let begin = clock.begin;
+    let end = clock.end;
     let o = decided(
         &bytes[..length],
+        &begin[..count],
+        &end[..count],
+        clock.drift,
         encoding,
         pruning,
         places,
@@ -93,11 +100,13 @@ pub(crate) fn stored(c: Case, number: u8, found: bool, order: [u8; 32]) -> Case
     }
     let bytes = c.bytes;
     let starting = c.starting;
+    let clock = c.clock;
     Case {
         stage: stage_by(found),
         bytes,
         length: c.length,
         starting,
+        clock,
         order,
     }
 }

@@ -2,12 +2,14 @@
 ghost use mathlib.Core.Path.{_≡_};
 ghost use Prim.Native.Nat.{_≤_};
 ghost use lib.ListN as ListN;
+ghost use Rattle.model.specs.Times.{times};
 ghost use Rattle.model.specs.Window.{window, windowNumber};
 ghost use Rattle.checker.specs.Cases.{stageOf, inRoom, loadedCase};
 ghost use Rattle.answers.specs.Stages.{isFresh};
 ghost use Rattle.checker.specs.Calls.{loadRefusal};
 use crate::Case;
 use crate::Stage;
+use answers::clocks::clock_of;
 use answers::copies::copy_bytes;
 use answers::copies::copy_values;
 use answers::stages::counted_as;
@@ -20,8 +22,9 @@ pub(crate) fn stage_of(c: Case) -> Stage
     let says = c.stage;
     let bytes = c.bytes;
     let length = c.length;
+    let clock = c.clock;
     let order = c.order;
-    counted_as(says, &bytes, length, &order)
+    counted_as(says, &bytes, length, clock, &order)
 }
 
 // Whether a case counts as fresh.
@@ -33,11 +36,18 @@ pub(crate) fn is_fresh(c: Case) -> bool
 }
 
 // The number with which Load refuses, or 0: 21, then Load's number of the window.
-pub(crate) fn load_refusal(c: Case, log: &[u8], starting: &[u16]) -> u8
-    ensures { λ r. ⌜ r ≡ loadRefusal c (window (now (log .entry)) (now (starting .entry))) ⌝ }
+pub(crate) fn load_refusal(
+    c: Case,
+    log: &[u8],
+    starting: &[u16],
+    begin: &[u32],
+    end: &[u32],
+    drift: u32,
+) -> u8
+    ensures { λ r. ⌜ r ≡ loadRefusal c (window (now (log .entry)) (now (starting .entry)) (times (now (begin .entry)) (now (end .entry)) drift)) ⌝ }
 {
     if is_fresh(c) {
-        answers::windows::number(log, starting)
+        answers::windows::number(log, starting, begin, end, drift)
     } else {
         21
     }
@@ -64,18 +74,20 @@ fn values_of(starting: &[u16]) -> [u16; 32]
 }
 
 // The case that holds a window which Load takes.
-pub(crate) fn loaded(log: &[u8], starting: &[u16]) -> Case
-    requires { ⌜ windowNumber (window (now log) (now starting)) ≡ 0 ⌝ }
-    ensures { λ r. ⌜ r ≡ loadedCase (window (now (log .entry)) (now (starting .entry))) ⌝ }
+pub(crate) fn loaded(log: &[u8], starting: &[u16], begin: &[u32], end: &[u32], drift: u32) -> Case
+    requires { ⌜ windowNumber (window (now log) (now starting) (times (now begin) (now end) drift)) ≡ 0 ⌝ }
+    ensures { λ r. ⌜ r ≡ loadedCase (window (now (log .entry)) (now (starting .entry)) (times (now (begin .entry)) (now (end .entry)) drift)) ⌝ }
 {
     let bytes = in_room(log);
     let length = log.len();
     let values = values_of(starting);
+    let clock = clock_of(begin, end, drift);
     Case {
         stage: Stage::Loaded,
         bytes,
         length,
         starting: values,
+        clock,
         order: [0; 32],
     }
 }

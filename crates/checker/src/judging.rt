@@ -15,5 +15,15 @@ pub(crate) fn judged(c: Case, proposed: &[u8]) -> Judgement
     }
     let bytes = c.bytes;
     let length = c.length;
-    answers::judging::judged(&bytes[..length], proposed)
+    let clock = c.clock;
+    let count = clock.count;
+    let begin = clock.begin;
+    let end = clock.end;
+    answers::judging::judged(
+        &bytes[..length],
+        &begin[..count],
+        &end[..count],
+        clock.drift,
+        proposed,
+    )
 }

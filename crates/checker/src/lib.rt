@@ -1,6 +1,7 @@
 // The case and the calls. A case goes into each call by value and comes back from it in the answer.
 // Anyone may put a case together, so each call first finds the stage that it counts as (`held::stage_of`); no call requires anything.
 ghost use mathlib.Core.Path.{_≡_};
+ghost use Rattle.model.specs.Times.{times};
 ghost use Rattle.model.specs.Window.{window};
 ghost use Rattle.checker.specs.Cases.{freshCase};
 ghost use lib.ListN.{length};
@@ -9,6 +10,7 @@ ghost use Rattle.checker.specs.Results.{orderRefused, orderLeft, tableRe
 ghost use Rattle.checker.specs.Encodings.{Encodes};
 ghost use Rattle.checker.specs.Decisions.{Decides};
 ghost use Rattle.answers.specs.Numbers.{numberOf, judgementNumber, judgementYes};
+pub use answers::Clock;
 pub use answers::Judgement;
 pub use answers::Reply;
 pub use answers::Stage;
@@ -22,12 +24,13 @@ mod plans;
 mod polygraphs;
 mod results;
 
-// The stage that it says, the log in its room, the table that the window starts from, and the order.
+// The stage that it says, the log in its room, the table that the window starts from, its times, and the order.
 pub struct Case {
     pub stage: Stage,
     pub bytes: [u8; 1156],
     pub length: usize,
     pub starting: [u16; 32],
+    pub clock: Clock,
     pub order: [u8; 32],
 }
 
@@ -58,32 +61,41 @@ pub struct Decision {
 }
 
 impl Case {
-    // A fresh case: nothing loaded, and zeros everywhere.
+    // A fresh case: nothing loaded, no times, and zeros everywhere.
     pub fn fresh() -> Case
         ensures { λ r. ⌜ r ≡ freshCase ⌝ }
     {
+        let clock = answers::clocks::none();
         Case {
             stage: Stage::Fresh,
             bytes: [0; 1156],
             length: 0,
             starting: [0; 32],
+            clock,
             order: [0; 32],
         }
     }
 
-    // Reads a log, and the table that it starts from, into a fresh case.
-    pub fn load(mut self, log: &[u8], starting: &[u16]) -> Answer
-        ensures result { λ r. ⌜ r ≡ loading self (window (now (log .entry)) (now (starting .entry))) ⌝ }
-        ensures number { λ r. ⌜ numberOf (r .reply) ≡ loadRefusal self (window (now (log .entry)) (now (starting .entry))) ⌝ }
+    // Reads a log, the table that it starts from, and its times, into a fresh case.
+    pub fn load(
+        mut self,
+        log: &[u8],
+        starting: &[u16],
+        begin: &[u32],
+        end: &[u32],
+        drift: u32,
+    ) -> Answer
+        ensures result { λ r. ⌜ r ≡ loading self (window (now (log .entry)) (now (starting .entry)) (times (now (begin .entry)) (now (end .entry)) drift)) ⌝ }
+        ensures number { λ r. ⌜ numberOf (r .reply) ≡ loadRefusal self (window (now (log .entry)) (now (starting .entry)) (times (now (begin .entry)) (now (end .entry)) drift)) ⌝ }
     {
-        let number = held::load_refusal(self, log, starting);
+        let number = held::load_refusal(self, log, starting, begin, end, drift);
         if number != 0 {
             return Answer {
                 case: self,
                 reply: Reply::Refused(number),
             };
         }
-        let loaded = held::loaded(log, starting);
+        let loaded = held::loaded(log, starting, begin, end, drift);
         self = loaded;
         Answer {
             case: self,

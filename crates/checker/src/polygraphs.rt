@@ -46,7 +46,19 @@ pub(crate) fn planned(c: Case, encoding: u8, pruning: u8, places: usize, words: 
     let length = c.length;
     let mut tables = [0u32; WORDS];
     let mut chosen = [0u16; PLACES];
-    let known = encoding::prepare(&bytes[..length], encoding, &mut tables, &mut chosen);
+    let clock = c.clock;
+    let entries = clock.count;
+    let begin = clock.begin;
+    let end = clock.end;
+    let known = encoding::prepare(
+        &bytes[..length],
+        &begin[..entries],
+        &end[..entries],
+        clock.drift,
+        encoding,
+        &mut tables,
+        &mut chosen,
+    );
     let rows = known.rows;
     let count = known.count;
     let number = places_refusal(count, places, words);

@@ -1,13 +1,14 @@
-// The first legal order of a log, from its bytes, the constraints that pruning 0 or 1 leaves, as candidates' numbers, and the closed words of its known edges.
+// The first legal order of a log with times, from its bytes, the constraints that pruning 0 or 1 leaves, as candidates' numbers, and the closed words of its known
+// edges. Nothing here looks at the times: the words and what pruning left have them.
 // The search prunes by itself, and the first legal order is the same in all six settings.
 ghost use mathlib.Core.Path.{_≡_};
 ghost use Prim.Native.Nat.{_≤_, _*_};
 ghost use lib.ListN.{length};
-ghost use Rattle.model.specs.Log.{transactionsIn, loadNumber, historyOf};
+ghost use Rattle.model.specs.Log.{loadNumber};
 ghost use Rattle.listing.specs.Candidates.{itemsBy};
 ghost use Rattle.search.specs.Steps.{PartialOrder};
 ghost use Rattle.decision.specs.Words.{WordsOf};
-ghost use Rattle.decision.specs.Answer.{SettledIn, firstAnswer};
+ghost use Rattle.decision.specs.Answer.{Settled, First};
 use listing::PLACES;
 use listing::WORDS;
 use search::order::Found;
@@ -43,8 +44,8 @@ fn first_of_few<'a, 'b>(
     n: u16,
     closed: [u32; 32],
 ) -> Found
-    requires { ⌜ (loadNumber (now log) ≡ 0) × (n ≤ 64) × SettledIn (historyOf (now log)) (now tables) (now chosen) n closed × PartialOrder closed ⌝ }
-    ensures { λ r. ⌜ r ≡ firstAnswer (historyOf (now (log .entry))) ⌝ }
+    requires { ⌜ (loadNumber (now log) ≡ 0) × (n ≤ 64) × Settled (now log) (now tables) (now chosen) n closed × PartialOrder closed ⌝ }
+    ensures { λ r. ⌜ First (now (log .entry)) (now (tables .entry)) (now (chosen .entry)) n closed r ⌝ }
 {
     let t = log::transactions(log);
     let mut out = [0u32; FEW_WORDS];
@@ -60,8 +61,8 @@ fn first_of_some<'a, 'b>(
     n: u16,
     closed: [u32; 32],
 ) -> Found
-    requires { ⌜ (loadNumber (now log) ≡ 0) × (n ≤ 512) × SettledIn (historyOf (now log)) (now tables) (now chosen) n closed × PartialOrder closed ⌝ }
-    ensures { λ r. ⌜ r ≡ firstAnswer (historyOf (now (log .entry))) ⌝ }
+    requires { ⌜ (loadNumber (now log) ≡ 0) × (n ≤ 512) × Settled (now log) (now tables) (now chosen) n closed × PartialOrder closed ⌝ }
+    ensures { λ r. ⌜ First (now (log .entry)) (now (tables .entry)) (now (chosen .entry)) n closed r ⌝ }
 {
     let t = log::transactions(log);
     let mut out = [0u32; SOME_WORDS];
@@ -77,8 +78,8 @@ fn first_of_many<'a, 'b>(
     n: u16,
     closed: [u32; 32],
 ) -> Found
-    requires { ⌜ (loadNumber (now log) ≡ 0) × SettledIn (historyOf (now log)) (now tables) (now chosen) n closed × PartialOrder closed ⌝ }
-    ensures { λ r. ⌜ r ≡ firstAnswer (historyOf (now (log .entry))) ⌝ }
+    requires { ⌜ (loadNumber (now log) ≡ 0) × Settled (now log) (now tables) (now chosen) n closed × PartialOrder closed ⌝ }
+    ensures { λ r. ⌜ First (now (log .entry)) (now (tables .entry)) (now (chosen .entry)) n closed r ⌝ }
 {
     let t = log::transactions(log);
     let mut out = [0u32; ALL_WORDS];
@@ -95,8 +96,8 @@ pub fn first_settled<'a, 'b>(
     n: u16,
     closed: [u32; 32],
 ) -> Found
-    requires { ⌜ (loadNumber (now log) ≡ 0) × SettledIn (historyOf (now log)) (now tables) (now chosen) n closed ⌝ }
-    ensures { λ r. ⌜ r ≡ firstAnswer (historyOf (now (log .entry))) ⌝ }
+    requires { ⌜ (loadNumber (now log) ≡ 0) × Settled (now log) (now tables) (now chosen) n closed ⌝ }
+    ensures { λ r. ⌜ First (now (log .entry)) (now (tables .entry)) (now (chosen .entry)) n closed r ⌝ }
 {
     if graph::cyclic(closed) {
         return Found {

@@ -1,18 +1,20 @@
 // Decide, Order and Table of many small random histories, in the six settings, against a search through all permutations and a direct replay: up to 6
 // transactions over 1 to 3 keys, with good, bad and starting reads, read-backs, shared cabinets, blind writes, read-modify-write chains and rings. Each
-// starts from a random table, and is decided as it is from zeros.
+// starts from a random table, and is decided as it is from zeros. Some four in ten have times.
 use checker::Case;
+use checker::Clock;
 use checker::Decision;
 use checker::Stage;
 use checker::Verdict;
 use direct::Polygraph;
 use results::Expected;
+use samples::clocks::loaded_by;
+use samples::clocks::none;
 use samples::lines::end;
 use samples::lines::number;
 use samples::lines::text;
 use samples::lines::yes_no;
 use samples::loaded;
-use samples::loaded_from;
 use samples::same_case;
 use samples::tables::drawn;
 use samples::tables::same;
@@ -24,12 +26,20 @@ const COUNT: u64 = 1000;
 
 // The histories with a read-back; those that start from zeros, and from the highest value everywhere; those with an order and without; decisions, each with
 // Order and Table of its case; refusals of Order and Table; decisions on a list that another was made on; decisions from zeros and from the history's table.
+// Of the histories with times: those whose times agree with the serial order that they were drawn by; those with an order and without; those where the clock alone
+// takes the order away, or makes another the first.
 pub struct Tally {
     pub backs: u64,
     pub lowest: u64,
     pub highest: u64,
     pub orders: u64,
     pub without: u64,
+    pub timed: u64,
+    pub agreeing: u64,
+    pub timely: u64,
+    pub barred: u64,
+    pub taken: u64,
+    pub moved: u64,
     pub decided: u64,
     pub different: u64,
     pub refused: u64,
@@ -53,14 +63,42 @@ fn shown(found: bool, order: [u8; 32], size: usize) -> [u8; 32] {
     out
 }
 
+// The times of a sample as Load takes them.
+fn clock_of(s: trial::Sample) -> Clock {
+    let x = s.times;
+    let begin = x.begin;
+    let end = x.end;
+    Clock {
+        count: if x.timed { (s.size % 33) as usize } else { 0 },
+        begin,
+        end,
+        drift: x.drift,
+    }
+}
+
+// The same for the direct listing.
+fn times_of(x: Expected) -> direct::Times {
+    let c = x.clock;
+    let begin = c.begin;
+    let end = c.end;
+    direct::Times {
+        timed: c.count > 0,
+        begin,
+        end,
+        drift: c.drift,
+    }
+}
+
 fn expected(s: trial::Sample, log: &[u8], starting: [u16; 32]) -> Expected {
     let first = trial::orders::first(s);
     let found = first.found;
     let size = s.size as usize;
     let theirs = first.order;
     let order = shown(found, theirs, size);
+    let clock = clock_of(s);
     Expected {
         starting,
+        clock,
         found,
         size,
         order,
@@ -73,6 +111,7 @@ fn stored(c: Case, x: Expected) -> Case {
     let bytes = c.bytes;
     let length = c.length;
     let starting = c.starting;
+    let clock = c.clock;
     let order = x.order;
     if x.found {
         return Case {
@@ -80,6 +119,7 @@ fn stored(c: Case, x: Expected) -> Case {
             bytes,
             length,
             starting,
+            clock,
             order,
         };
     }
@@ -88,14 +128,23 @@ fn stored(c: Case, x: Expected) -> Case {
         bytes,
         length,
         starting,
+        clock,
         order,
     }
 }
 
-// The case that holds a log beside the table that it starts from.
+// The case that holds a log with its times beside the table that it starts from.
 fn held(log: &[u8], x: Expected) -> Case {
     let starting = x.starting;
-    loaded_from(log, &starting)
+    let clock = x.clock;
+    loaded_by(log, &starting, clock)
+}
+
+// The same beside 32 zeros.
+fn held_from_zeros(log: &[u8], x: Expected) -> Case {
+    let zeros = [0u16; 32];
+    let clock = x.clock;
+    loaded_by(log, &zeros, clock)
 }
 
 // ---- decisions
@@ -109,6 +158,11 @@ fn verdict_number(v: Verdict) -> u8 {
     }
 }
 
+// Whether two orders are the same.
+fn same_order(a: [u8; 32], b: [u8; 32]) -> bool {
+    check::same(&a, &b)
+}
+
 // Whether a decision of the case is the one that is expected, with so many constraints left.
 fn agrees(d: Decision, c: Case, x: Expected, left: usize) -> bool {
     let v = d.verdict;
@@ -117,7 +171,7 @@ fn agrees(d: Decision, c: Case, x: Expected, left: usize) -> bool {
     let wanted = x.order;
     let number = if x.found { 100 } else { 101 };
     verdict_number(v) == number
-        && check::same(&order, &wanted)
+        && same_order(order, wanted)
         && d.left == left
         && same_case(after, stored(c, x))
 }
@@ -154,7 +208,7 @@ fn repeats(decided: Case, x: Expected, encoding: u8, pruning: u8, p: Polygraph) 
 // Whether Decide gives what is expected of a loaded case, and Order and Table of the case that is decided then.
 fn setting_agrees(c: Case, log: &[u8], x: Expected, encoding: u8, pruning: u8) -> bool {
     let mut list = [0u32; 16384];
-    let p = direct::encoded(log, encoding, pruning, &mut list);
+    let p = direct::encoded(log, times_of(x), encoding, pruning, &mut list);
     let d = lists::decide(c, encoding, pruning, 4096, lists::marked(5));
     if !agrees(d, c, x, p.left) {
         return false;
@@ -163,12 +217,19 @@ fn setting_agrees(c: Case, log: &[u8], x: Expected, encoding: u8, pruning: u8) -
     repeats(decided, x, encoding, pruning, p) && results::agree(decided, x)
 }
 
-// Decide on a list that another log's constraints were written to, each in a setting: whether it is as if it were alone, and the list holds what the
-// two calls write one after the other.
+// Decide on a list that another log's constraints were written to, which has no times, each in a setting: whether it is as if it were alone, and the list
+// holds what the two calls write one after the other.
 fn again_agrees(first: &[u8], s: u8, second: &[u8], r: u8, x: Expected) -> bool {
     let mut list = [77u32; 16384];
-    let one = direct::encoded(first, s / 2 % 3, s % 2, &mut list);
-    let two = direct::encoded(second, r / 2 % 3, r % 2, &mut list);
+    let zeros = [0u32; 32];
+    let timeless = direct::Times {
+        timed: false,
+        begin: zeros,
+        end: zeros,
+        drift: 0,
+    };
+    let one = direct::encoded(first, timeless, s / 2 % 3, s % 2, &mut list);
+    let two = direct::encoded(second, times_of(x), r / 2 % 3, r % 2, &mut list);
     let c = held(second, x);
     let mut out = [0u32; 16384];
     let d = lists::decide_again(
@@ -274,12 +335,33 @@ fn with_again(
 // A log from zeros and from its table, in a setting.
 fn with_table(t: Tally, log: &[u8], x: Expected, seed: u64) -> Tally {
     let starting = x.starting;
-    let yes = alike(loaded(log), held(log, x), (seed / 36 % 6) as u8);
+    let yes = alike(held_from_zeros(log, x), held(log, x), (seed / 36 % 6) as u8);
     let mut out = t;
     out.lowest = more(t.lowest, same(starting, [0; 32]));
     out.highest = more(t.highest, same(starting, [65535; 32]));
     out.twice = more(t.twice, true);
     out.apart = more(t.apart, !yes);
+    out
+}
+
+// What the clock does to a history: s with its times, of which x is expected.
+fn with_clock(t: Tally, s: trial::Sample, x: Expected, seed: u64) -> Tally {
+    let clock = x.clock;
+    if clock.count == 0 {
+        return t;
+    }
+    let run = trial::times::run_order(s.size, seed);
+    let free = trial::orders::first(trial::with_times(s, trial::times::without(0)));
+    let theirs = free.order;
+    let order = shown(free.found, theirs, x.size);
+    let ours = x.order;
+    let mut out = t;
+    out.timed = more(t.timed, true);
+    out.agreeing = more(t.agreeing, trial::orders::keeps_clock(s, run));
+    out.timely = more(t.timely, x.found);
+    out.barred = more(t.barred, !x.found);
+    out.taken = more(t.taken, free.found && !x.found);
+    out.moved = more(t.moved, x.found && !same_order(order, ours));
     out
 }
 
@@ -298,7 +380,16 @@ fn with_log(t: Tally, bytes: &[u8], length: usize, s: trial::Sample, kind: u8, s
     let other = trial::log::of(trial::small(kind, seed % 1000000 + 1000000));
     let before = other.bytes;
     let again = with_again(refused, &before, other.length, log, x, seed);
-    with_table(again, log, x, seed)
+    let clocked = with_clock(again, s, x, seed);
+    with_table(clocked, log, x, seed)
+}
+
+// A sample of a kind, with times or without. Those of each kind are others.
+fn sample(kind: u8, seed: u64) -> trial::Sample {
+    let s = trial::small(kind, seed);
+    let order = trial::times::run_order(s.size, seed);
+    let n = seed % 1000000 * 5 + kind as u64;
+    trial::with_times(s, trial::times::drawn(s.size, order, n))
 }
 
 // The histories of a kind.
@@ -309,6 +400,12 @@ fn row(kind: u8) -> Tally {
         highest: 0,
         orders: 0,
         without: 0,
+        timed: 0,
+        agreeing: 0,
+        timely: 0,
+        barred: 0,
+        taken: 0,
+        moved: 0,
         decided: 0,
         different: 0,
         refused: 0,
@@ -319,13 +416,29 @@ fn row(kind: u8) -> Tally {
         apart: 0,
     };
     for seed in 0..COUNT {
-        let s = trial::small(kind, seed);
+        let s = sample(kind, seed);
         let l = trial::log::of(s);
         let bytes = l.bytes;
         let next = with_log(t, &bytes, l.length, s, kind, seed);
         t = next;
     }
     t
+}
+
+// Of the histories with times.
+fn print_clock(t: Tally) {
+    text(b"; with times");
+    number(t.timed);
+    text(b", of these agreeing with its serial order");
+    number(t.agreeing);
+    text(b", order");
+    number(t.timely);
+    text(b", no order");
+    number(t.barred);
+    text(b", taken away by the clock alone");
+    number(t.taken);
+    text(b", another one first by it");
+    number(t.moved);
 }
 
 fn print(name: &[u8], kind: u8) {
@@ -341,6 +454,7 @@ fn print(name: &[u8], kind: u8) {
     number(t.orders);
     text(b", no order");
     number(t.without);
+    print_clock(t);
     text(b"; decided");
     number(t.decided);
     text(b", different");
@@ -358,6 +472,28 @@ fn print(name: &[u8], kind: u8) {
     text(b", different");
     number(t.apart);
     end();
+}
+
+// A case with another count of times and another drift.
+fn with_times(c: Case, count: usize, drift: u32) -> Case {
+    let mut clock = none();
+    clock.count = count;
+    clock.drift = drift;
+    let mut out = c;
+    out.clock = clock;
+    out
+}
+
+// Whether Decide refuses what counts as fresh by its times: c has two transactions.
+fn times_refused(c: Case) -> bool {
+    let one = with_times(c, 1, 0);
+    let most = with_times(c, 33, 0);
+    let wide = with_times(c, 2, 3601);
+    let good = with_times(c, 2, 3600);
+    refuses(lists::decide(one, 2, 1, 4096, lists::marked(1)), one, 22)
+        && refuses(lists::decide(most, 2, 1, 4096, lists::marked(1)), most, 22)
+        && refuses(lists::decide(wide, 3, 2, 0, lists::marked(1)), wide, 22)
+        && refuses(lists::decide(good, 3, 2, 0, lists::marked(1)), good, 12)
 }
 
 // Whether Decide refuses a setting out of range, and any setting of a fresh case, also with no places for the constraint that c has in encodings 1 and 2.
@@ -390,5 +526,8 @@ fn main() {
         b"\x02\x00\x02\x00\x00\x01\x00\x00\x01\x01\x01\x00\x01\x00\x05\x00\x01\x00\x07\x00",
     );
     yes_no(settings_refused(c));
+    end();
+    text(b"cases that count as fresh by their times are refused as they must be:");
+    yes_no(times_refused(c));
     end();
 }

@@ -1,6 +1,7 @@
-// The known edges of a history in an encoding, as row words: bit v of word u stands for u→v.
+// The known edges of a history in an encoding, and those of its times, as row words: bit v of word u stands for u→v.
 use crate::History;
 use crate::START;
+use crate::Times;
 use crate::bit;
 use crate::good;
 use crate::name;
@@ -61,7 +62,7 @@ fn with_further(rows: [u32; 32], h: History, t: usize, key: usize) -> [u32; 32] 
     rows
 }
 
-// The known edges.
+// The known edges that the log gives.
 pub fn known(h: History, encoding: u8) -> [u32; 32] {
     let mut rows = cabinets(h);
     for i in 0..256usize {
@@ -76,4 +77,23 @@ pub fn known(h: History, encoding: u8) -> [u32; 32] {
         }
     }
     rows
+}
+
+// Whether an end and the drift together are before a begin. The sum may pass 32 bits.
+fn ended_before(end: u32, drift: u32, begin: u32) -> bool {
+    (end as u64) + (drift as u64) < begin as u64
+}
+
+// The rows with the edges that the times of so many transactions give: between any two, not neighbours alone.
+pub fn with_clock(rows: [u32; 32], times: Times, size: usize) -> [u32; 32] {
+    let mut out = rows;
+    for q in 0..1024usize {
+        if times.timed && q / 32 < size && q % 32 < size {
+            if ended_before(times.end[q / 32], times.drift, times.begin[q % 32]) {
+                let more = with_edge(out, q / 32, q % 32);
+                out = more;
+            }
+        }
+    }
+    out
 }

@@ -1,11 +1,19 @@
-// A second listing of a log's polygraph, written straight from the sentences of document 01 and card 1. Nothing here is shared with the code under test: the log's bytes
-// are read into tables (this file), the known edges and the constraints are listed from them (modules `edges`, `constraints`), pruning goes by passes
-// with all paths found afresh before each constraint (module `passes`), and an order is replayed on a table (module `tables`). The contracts say nothing;
-// the functions are proved safe and ending.
+// A second listing of a log's polygraph, written straight from the sentences of document 01 and cards 1 and 7. Nothing here is shared with the code under
+// test: the log's bytes are read into tables (this file), the known edges and the constraints are listed from them (modules `edges`, `constraints`), pruning
+// goes by passes with all paths found afresh before each constraint (module `passes`), and an order is replayed on a table (module `tables`). The contracts
+// say nothing; the functions are proved safe and ending.
 pub mod constraints;
 pub mod edges;
 pub mod passes;
 pub mod tables;
+
+// A begin and an end for each transaction, and the drift; or none, where `timed` is false.
+pub struct Times {
+    pub timed: bool,
+    pub begin: [u32; 32],
+    pub end: [u32; 32],
+    pub drift: u32,
+}
 
 // What a log that Load takes says, of `size` transactions. Bit t of `writers[k]` is set where t writes key k; place 32 * t + k of `names` is what t's read
 // of key k names, or NONE; the first `count` of `reads` are such places, in body order. A read-back is no such read: the write before it in its transaction
@@ -204,10 +212,16 @@ pub struct Polygraph {
     pub rows: [u32; 32],
 }
 
-// The polygraph of a log. The first `count` places of the list are written as Encode should write them.
-pub fn encoded(log: &[u8], encoding: u8, pruning: u8, list: &mut [u32; 16384]) -> Polygraph {
+// The polygraph of a log with times. The first `count` places of the list are written as Encode should write them.
+pub fn encoded(
+    log: &[u8],
+    times: Times,
+    encoding: u8,
+    pruning: u8,
+    list: &mut [u32; 16384],
+) -> Polygraph {
     let h = read(log);
-    let rows = edges::known(h, encoding);
+    let rows = edges::with_clock(edges::known(h, encoding), times, h.size);
     let count = constraints::listed(list, h, encoding);
     if pruning == 0 {
         return Polygraph {

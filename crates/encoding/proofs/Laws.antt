@@ -1,5 +1,6 @@
 -- What choosing, listing, pruning and clearing leave is the polygraph. Assumes nothing.
 --     room-bodies, by-bodies, room-runs, by-runs      the numbers have a place; the tables and the numbers of encoding 0, and of encodings 1 and 2
+--     planned-timed    the plan with times
 --     aimed            pruning may go over the list once the constraints are listed.        encoded      what is left at the end
 --     written-left     the first constraints listed, and the places behind them cleared
 use Prim.Native.Nat.{ℕ, _+_, _-_, _≤_, _<_}
@@ -10,12 +11,16 @@ use mathlib.Core.List.{List, _++_}
 use lib.ListN.{length, getD, take, drop, replicate, List·getD-append}
 use lib.Seq.{take-at, drop-at, drop-drop}
 use Rattle.model.specs.History.{History, size}
-use Rattle.model.specs.Polygraph.{Polygraph, constraints, polygraph}
+use Rattle.model.specs.Polygraph.{Polygraph, rows, constraints, polygraph}
 use Rattle.model.specs.Log.{transactionsIn, operationsIn, historyOf}
+use Rattle.model.specs.Times.{Times, timedNumber, timedHistory}
 use Rattle.model.specs.Lent.{noConstraint, encodedList, encodedCount}
 use Rattle.model.specs.declared.Constraint.{Constraint}
 use Rattle.model.proofs.Counting.{constraints-log}
 use Rattle.model.proofs.Loaded.{Bytes, history-size, well-formed}
+use Rattle.model.proofs.Times.{timed-constraints}
+use Rattle.polygraph.specs.Clock.{withClock}
+use Rattle.polygraph.proofs.Timing.{clock-rows}
 use Rattle.listing.specs.Candidates.{itemsBy}
 use Rattle.listing.specs.Choosing.{Space, Chose}
 use Rattle.listing.specs.Listing.{Chosen}
@@ -53,6 +58,17 @@ module _ (b : List ℕ) (n : ℕ) (writers marks : List ℕ) (ok : TablesOf b n 
     pub by-runs : (t ls : List ℕ) (r : ℕ) → (t ≡ runWords e n writers marks w) × Chose (runNumbers e writers marks) 0 ks r ls → Chosen (historyOf b) e t ls r
     by-runs t ls r p =
         chosen-runs (historyOf b) small (well-formed b bytes (ok .loads)) e n writers marks w nz l count (ok .writers-are) (ok .marks-are) (space .words) (few e) t ks ls r (space .places) (p .0) (p .1)
+
+-- ---- with times: the same constraints, and the edges by the clock beside those of the log
+
+pub planned-timed : (b : List ℕ) (ts : Times) → timedNumber b ts ≡ 0 → (e : ℕ) (t ks rs out : List ℕ) (n : ℕ) → Chosen (historyOf b) e t ks n → rs ≡ rows (historyOf b) e → out ≡ withClock ts rs
+    → Planned (timedHistory b ts) e t ks out n
+planned-timed b ts taken e t ks rs out n c known is =
+    let same : constraints (timedHistory b ts) e ≡ constraints (historyOf b) e = ap (λ (f : ℕ → List Constraint). f e) (timed-constraints ts (historyOf b)) in
+    record {
+      chosen-are = record { count-is = c .count-is ∙ ap length (sym same); low = c .low; items-are = c .items-are ∙ sym same };
+      rows-are = is ∙ ap (withClock ts) known ∙ clock-rows b ts taken e;
+    }
 
 -- ---- what is written
 

@@ -1,10 +1,11 @@
-// The polygraph of a log in a setting: planned into tables and numbers that the caller lends, then written to the list that the caller lends.
+// The polygraph of a log and its times in a setting: planned into tables and numbers that the caller lends, then written to the list that the caller lends.
 ghost use mathlib.Core.Path.{_≡_};
 ghost use Prim.Native.Nat.{ℕ, _≤_, _-_};
 ghost use mathlib.Core.List.{_++_};
 ghost use lib.ListN.{length, replicate, drop};
 ghost use Rattle.model.specs.History.{History};
-ghost use Rattle.model.specs.Log.{loadNumber, historyOf};
+ghost use Rattle.model.specs.Log.{historyOf};
+ghost use Rattle.model.specs.Times.{times, timedNumber, timedHistory};
 ghost use Rattle.model.specs.Lent.{noConstraint};
 ghost use Rattle.listing.specs.Candidates.{itemsBy};
 ghost use Rattle.listing.specs.Choosing.{Space};
@@ -43,15 +44,18 @@ fn choose(
     }
 }
 
-// Plans a log's polygraph in an encoding: into the tables and the numbers, and what is known beside them.
+// Plans the polygraph of a log and its times in an encoding: into the tables and the numbers, and what is known beside them.
 pub fn prepare(
     log: &[u8],
+    begin: &[u32],
+    end: &[u32],
+    drift: u32,
     encoding: u8,
     tables: &mut [u32; WORDS],
     chosen: &mut [u16; PLACES],
 ) -> Known
-    requires { ⌜ (loadNumber (now log) ≡ 0) × (encoding ≤ 2) × Space (now tables) (now chosen) ⌝ }
-    ensures { λ r. ⌜ Planned (historyOf (now (log .entry))) encoding (now (tables .exit)) (now (chosen .exit)) (r .rows) (r .count) ⌝ }
+    requires { ⌜ (timedNumber (now log) (times (now begin) (now end) drift) ≡ 0) × (encoding ≤ 2) × Space (now tables) (now chosen) ⌝ }
+    ensures { λ r. ⌜ Planned (timedHistory (now (log .entry)) (times (now (begin .entry)) (now (end .entry)) drift)) encoding (now (tables .exit)) (now (chosen .exit)) (r .rows) (r .count) ⌝ }
 {
     let n = log::transactions(log);
     let mut writers = [0u32; 32];
@@ -59,7 +63,8 @@ pub fn prepare(
     let read = polygraph::decode(log, &mut writers, &mut reads);
     let mut marks = [0u32; MARKS];
     polygraph::read_marks(&reads, read, &writers, &mut marks);
-    let rows = polygraph::known(log, n, encoding, &reads, read, &writers, &marks);
+    let mut rows = polygraph::known(log, n, encoding, &reads, read, &writers, &marks);
+    polygraph::clock::add(begin, end, drift, &mut rows);
     let count = choose(log, n, encoding, &writers, &marks, tables, chosen);
     Known { rows, count }
 }

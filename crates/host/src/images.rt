@@ -1,8 +1,8 @@
-// Numbers as bytes, low byte first: a table's values, written and read, and a polygraph.
+// Numbers as bytes, low byte first: a table's values, written and read, times, read, and a polygraph.
 ghost use mathlib.Core.Path.{_≡_};
-ghost use Prim.Native.Nat.{_≤_, _*_, _+_};
-ghost use lib.ListN.{length};
-ghost use Rattle.host.specs.Images.{pairBytes, wordBytes, constraintBytes, filled, valueIn, valuesIn, rowIn, wordsIn};
+ghost use Prim.Native.Nat.{_≤_, _*_, _+_, _/_};
+ghost use lib.ListN.{length, take};
+ghost use Rattle.codes.specs.Images.{pairBytes, wordBytes, wordAt, constraintBytes, filled, valueIn, valuesIn, secondsIn, rowIn, wordsIn};
 use model::Constraint;
 
 // Two bytes of a number.
@@ -46,6 +46,31 @@ pub(crate) fn values(bytes: &[u8]) -> [u16; 32]
     let mut i: usize = 0;
     while i < 32 {
         out[i] = log::fields::pair(bytes, 2 * i) as u16;
+        i += 1;
+    }
+    out
+}
+
+// The number that four bytes hold. Its two halves are pairs.
+fn word(bytes: &[u8], at: usize) -> u32
+    requires { ⌜ at + 4 ≤ length (now bytes) ⌝ }
+    ensures { λ r. ⌜ r ≡ wordAt (now (bytes .entry)) at ⌝ }
+{
+    let low = log::fields::pair(bytes, at);
+    let high = log::fields::pair(bytes, at + 2);
+    (low + 65536 * high) as u32
+}
+
+// The seconds that at most 128 bytes hold, four bytes each. Behind them are zeros.
+pub(crate) fn seconds(bytes: &[u8]) -> [u32; 32]
+    requires { ⌜ length (now bytes) ≤ 128 ⌝ }
+    ensures { λ r. ⌜ take (length (now (bytes .entry)) / 4) r ≡ secondsIn (now (bytes .entry)) ⌝ }
+{
+    let mut out = [0u32; 32];
+    let n = bytes.len() / 4;
+    let mut i: usize = 0;
+    while i < n {
+        out[i] = word(bytes, 4 * i);
         i += 1;
     }
     out

@@ -14,11 +14,13 @@ use lib.Dec.{T, eqb}
 use lib.ListN.{length, take, drop, replicate}
 use lib.Seq.{take-at}
 use Rattle.model.specs.History.{History, size, legal, replay}
-use Rattle.model.specs.Window.{zeros, fromZeros}
+use Rattle.model.specs.Window.{windowHistory, zeros, fromZeros}
 use Rattle.model.specs.Log.{transactionsIn, loadNumber, historyOf}
 use Rattle.model.specs.Search.{firstLegal}
 use Rattle.model.specs.Lent.{encodedCount}
 use Rattle.model.proofs.Loaded.{history-size, loadable-log}
+use Rattle.model.proofs.Times.{timed-none}
+use Rattle.model.proofs.Windows.{number-of-zeros}
 use Rattle.model.proofs.First.{first-some, legal-length}
 use Rattle.polygraph.specs.Tables.{writersOf}
 use Rattle.checker.specs.declared.Case.{Case}
@@ -30,7 +32,7 @@ use Rattle.answers.specs.Stages.{isFresh}
 use Rattle.answers.specs.Settings.{settingRefusal}
 use Rattle.checker.specs.Decisions.{decideRefusal, decided, refusedDecision, deciding}
 use Rattle.checker.specs.Results.{orderLeft, tableLeft}
-use Rattle.checker.proofs.Chain.{load-holds, load-stage, order-writes, table-writes}
+use Rattle.checker.proofs.Chain.{load-window, load-stage, order-writes, table-writes}
 use Rattle.checker.proofs.Encodes.{enough-places}
 use Rattle.report.specs.Text.{refusedText, noOrderText, foundText, marked}
 use Rattle.report.specs.Judge.{decidedText, judgeText}
@@ -45,10 +47,10 @@ module _ (b : List ℕ) (ok : loadNumber b ≡ 0) where
   held = loadedCase (fromZeros b)
 
   history-is : historyIn held ≡ h
-  history-is = ap historyOf (load-holds (fromZeros b))
+  history-is = ap windowHistory (load-window (fromZeros b) (number-of-zeros b ∙ ok)) ∙ timed-none b 0
 
   not-fresh : isFresh (stageOf held) ≡ false
-  not-fresh = ap isFresh (load-stage (fromZeros b) ok)
+  not-fresh = ap isFresh (load-stage (fromZeros b) (number-of-zeros b ∙ ok))
 
   -- the list that is lent has places enough
   refusal-is : decideRefusal held 2 1 4096 ≡ 0

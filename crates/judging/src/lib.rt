@@ -1,4 +1,4 @@
-// What Judge does with a log: Load beside 32 zeros, Decide with encoding 2 and pruning 1, Order and Table; and the text of what they give, in a buffer that is long
+// What Judge does with a log: Load beside 32 zeros and no times, Decide with encoding 2 and pruning 1, Order and Table; and the text of what they give, in a buffer that is long
 // enough. The keys that are written come from the log.
 ghost use mathlib.Core.Path.{_≡_};
 ghost use Prim.Native.Nat.{_≤_};
@@ -56,7 +56,9 @@ pub fn judge(log: &[u8], out: &mut [u8; 1024]) -> usize
 {
     let fresh = Case::fresh();
     let zeros = [0u16; 32];
-    let a = fresh.load(log, &zeros);
+    let begin = [0u32; 1];
+    let end = [0u32; 1];
+    let a = fresh.load(log, &zeros, &begin[..0], &end[..0], 0);
     let reply = a.reply;
     let number = reply.number();
     if number != 0 {

@@ -13,6 +13,7 @@ use samples::lines::line2;
 use samples::lines::text;
 use samples::lines::yes_no;
 use samples::load_first;
+use samples::load_from;
 use samples::load_number;
 use samples::loaded;
 use samples::loaded_full;
@@ -20,6 +21,8 @@ use samples::same_case;
 use samples::with_byte;
 
 mod backs;
+mod clocks;
+mod spans;
 mod tables;
 
 // The longest log's header with a byte more than it says: 1,157 bytes.
@@ -234,9 +237,9 @@ fn state() {
         check_number(Case::fresh(), b"\x00"),
     );
     let zeros = [0u16; 32];
-    let again = held.load(b"\x00\x00\x00", &zeros);
+    let again = load_from(held, b"\x00\x00\x00", &zeros);
     let after = again.case;
-    let wrong = Case::fresh().load(b"\x00\x00\x00", &zeros);
+    let wrong = load_from(Case::fresh(), b"\x00\x00\x00", &zeros);
     let blank = wrong.case;
     text(b"after a refusal the case is as it was, loaded; fresh:");
     yes_no(same_case(held, after));
@@ -291,4 +294,6 @@ fn main() {
     state();
     tables::show_all();
     proposed();
+    clocks::show_all();
+    spans::show_all();
 }

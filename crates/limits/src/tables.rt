@@ -4,11 +4,13 @@ use checker::Answer;
 use checker::Case;
 use checker::Reply;
 use checker::Stage;
+use samples::clocks::none;
 use samples::full;
 use samples::lines::end;
 use samples::lines::number;
 use samples::lines::text;
 use samples::lines::yes_no;
+use samples::load_from;
 use samples::loaded_from;
 use samples::same_case;
 use samples::tables::levels;
@@ -25,7 +27,7 @@ fn load_beside(c: Case, log: &[u8], values: &[u16], n: usize) -> Answer {
             reply: Reply::Refused(255),
         };
     }
-    c.load(log, &values[0..n])
+    load_from(c, log, &values[0..n])
 }
 
 // Its number beside n nines.
@@ -93,11 +95,13 @@ fn contents() {
 
 // A case put together outside that counts as fresh, and has a log, a table of sevens and an order in it.
 fn used() -> Case {
+    let clock = none();
     Case {
         stage: Stage::Fresh,
         bytes: full(),
         length: 1156,
         starting: [7; 32],
+        clock,
         order: [3; 32],
     }
 }
@@ -118,7 +122,7 @@ fn with_level(c: Case, key: usize, x: u16) -> Case {
 
 // The line of a load that must be refused: its number, and whether the case is as it was, the table in it too.
 fn refused(name: &[u8], c: Case, log: &[u8], values: &[u16]) {
-    let a = c.load(log, values);
+    let a = load_from(c, log, values);
     let r = a.reply;
     let after = a.case;
     text(name);
@@ -174,7 +178,7 @@ fn compared() {
 // Whether a load of the full log beside the values is taken and stores exactly them, and nothing of what the case had before.
 fn stores(c: Case, values: [u16; 32]) -> bool {
     let log = full();
-    let a = c.load(&log, &values);
+    let a = load_from(c, &log, &values);
     let r = a.reply;
     let after = a.case;
     let stored = after.starting;

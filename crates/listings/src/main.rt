@@ -1,18 +1,21 @@
 // What Encode writes, against a second, direct listing: of small random histories and of full windows, some with read-backs, in the six settings, with
 // lists exactly as long as they must be, longer, and too short by one place or one word. Each log is loaded beside a random starting table, of which the
-// direct listing knows nothing.
+// direct listing knows nothing. Then the same with times.
 use checker::Case;
+use checker::Clock;
 use checker::Encoding;
 use checker::Reply;
 use direct::Polygraph;
+use samples::clocks::loaded_by;
+use samples::clocks::none;
 use samples::lines::end;
 use samples::lines::number;
 use samples::lines::text;
 use samples::loaded;
-use samples::loaded_from;
 use samples::same_case;
 use samples::tables::drawn;
 use trial::log::Bytes;
+use trial::times::Times;
 use windows::Form;
 use windows::Shape;
 
@@ -43,8 +46,12 @@ pub struct Seen {
     pub rows: [u32; 40],
 }
 
+// The logs with a read-back; those with times, and those of them where the clock gives an edge; the polygraphs, their constraints and those left; those that
+// are not as the direct listing has them; and the refusals.
 pub struct Tally {
     pub backs: u64,
+    pub timed: u64,
+    pub edged: u64,
     pub polygraphs: u64,
     pub constraints: u64,
     pub left: u64,
@@ -104,9 +111,9 @@ fn encoded(c: Case, l: Lent, out: &mut [u32]) -> Seen {
 // ---- the comparison
 
 // Whether the row words are those that are expected, and the further ones as they were.
-fn same_rows(seen: [u32; 40], rows: [u32; 32]) -> bool {
+fn same_rows(seen: [u32; 40], rows: [u32; 32], further: u32) -> bool {
     for i in 0..40usize {
-        let expected = if i < 32 { rows[i] } else { WORD };
+        let expected = if i < 32 { rows[i] } else { further };
         if seen[i] != expected {
             return false;
         }
@@ -123,7 +130,7 @@ fn agrees(c: Case, l: Lent, p: Polygraph, list: &[u32; 16384]) -> bool {
     s.number == 0
         && s.left == p.left
         && s.kept
-        && same_rows(seen, rows)
+        && same_rows(seen, rows, WORD)
         && lists::same_words(&out, list, 4 * (l.places % 4097))
 }
 
@@ -136,7 +143,7 @@ fn refuses(c: Case, l: Lent, expected: u64) -> bool {
     s.number == expected
         && s.left == 0
         && s.kept
-        && same_rows(seen, [WORD; 32])
+        && same_rows(seen, [WORD; 32], WORD)
         && lists::same_words(&out, &blank, 4 * (l.places % 4097))
 }
 
@@ -188,12 +195,32 @@ fn with_refusals(t: Tally, c: Case, l: Lent, p: Polygraph) -> Tally {
     out
 }
 
-// One setting of a log more, beside random table n.
-fn with_setting(t: Tally, log: &[u8], n: u64, encoding: u8, pruning: u8, mark: u32) -> Tally {
+// The times of a log for the direct listing.
+fn times_of(x: Clock) -> direct::Times {
+    let begin = x.begin;
+    let end = x.end;
+    direct::Times {
+        timed: x.count > 0,
+        begin,
+        end,
+        drift: x.drift,
+    }
+}
+
+// One setting of a log more, beside random table n and with times.
+fn with_setting(
+    t: Tally,
+    log: &[u8],
+    n: u64,
+    clock: Clock,
+    encoding: u8,
+    pruning: u8,
+    mark: u32,
+) -> Tally {
     let mut list = [mark; 16384];
-    let p = direct::encoded(log, encoding, pruning, &mut list);
+    let p = direct::encoded(log, times_of(clock), encoding, pruning, &mut list);
     let starting = drawn(n);
-    let c = loaded_from(log, &starting);
+    let c = loaded_by(log, &starting, clock);
     let l = Lent {
         encoding,
         pruning,
@@ -205,30 +232,40 @@ fn with_setting(t: Tally, log: &[u8], n: u64, encoding: u8, pruning: u8, mark: u
     with_refusals(listed, c, l, p)
 }
 
-// One log more: whether it has a read-back.
-fn counted(t: Tally, log: &[u8]) -> Tally {
+// Whether the clock gives an edge.
+fn gives_edge(x: Clock) -> bool {
+    let rows = direct::edges::with_clock([0; 32], times_of(x), x.count);
+    !same_rows([0; 40], rows, 0)
+}
+
+// One log more: whether it has a read-back, times, and an edge by them.
+fn counted(t: Tally, log: &[u8], clock: Clock) -> Tally {
     let mut out = t;
     out.backs = more(t.backs, one(direct::reads_back(log)));
+    out.timed = more(t.timed, one(clock.count > 0));
+    out.edged = more(t.edged, one(gives_edge(clock)));
     out
 }
 
-// The six settings of the log that is the first `length` bytes, beside random table n.
-fn with_log(t: Tally, bytes: &[u8], length: usize, n: u64, mark: u32) -> Tally {
+// The six settings of the log that is the first `length` bytes, beside random table n and with times.
+fn with_log(t: Tally, bytes: &[u8], length: usize, n: u64, clock: Clock, mark: u32) -> Tally {
     if length > bytes.len() {
         return t;
     }
     let log = &bytes[0..length];
-    let mut out = counted(t, log);
+    let mut out = counted(t, log, clock);
     for s in 0..6u8 {
-        let next = with_setting(out, log, n, s / 2, s % 2, mark);
+        let next = with_setting(out, log, n, clock, s / 2, s % 2, mark);
         out = next;
     }
     out
 }
 
-fn none() -> Tally {
+fn empty() -> Tally {
     Tally {
         backs: 0,
+        timed: 0,
+        edged: 0,
         polygraphs: 0,
         constraints: 0,
         left: 0,
@@ -257,6 +294,44 @@ fn log_by(source: Source, seed: u64) -> Bytes {
     }
 }
 
+// The times of a log of n transactions, in each manner in turn. The run is in the order.
+fn times_by(n: u8, order: [u8; 32], seed: u64) -> Times {
+    trial::times::of_manner((seed % 4) as u8, n, order, seed)
+}
+
+// The times of the log of n transactions by its number. Those of each kind are others.
+fn drawn_times(source: Source, n: u8, seed: u64) -> Times {
+    match source {
+        Source::Small(kind) => times_by(
+            n,
+            trial::times::run_order(n, seed),
+            seed % 1000000 * 5 + kind as u64,
+        ),
+        Source::FewKeys(kind) => times_by(
+            n,
+            trial::times::run_order(n, seed),
+            seed % 1000000 * 5 + kind as u64,
+        ),
+        Source::Windows(_) => times_by(n, windows::order_of(seed), seed),
+    }
+}
+
+// The same as Load takes them; or none.
+fn clock_by(source: Source, n: usize, timed: bool, seed: u64) -> Clock {
+    if !timed {
+        return none();
+    }
+    let x = drawn_times(source, (n % 33) as u8, seed);
+    let begin = x.begin;
+    let end = x.end;
+    Clock {
+        count: n % 33,
+        begin,
+        end,
+        drift: x.drift,
+    }
+}
+
 // What stands in the lent list.
 fn mark_by(source: Source, seed: u64) -> u32 {
     match source {
@@ -266,28 +341,42 @@ fn mark_by(source: Source, seed: u64) -> u32 {
     }
 }
 
+// The log of a source with its number, with times or without.
+fn with_source(t: Tally, source: Source, timed: bool, seed: u64) -> Tally {
+    let l = log_by(source, seed);
+    let bytes = l.bytes;
+    let clock = clock_by(source, direct::transactions(&bytes), timed, seed);
+    with_log(t, &bytes, l.length, seed, clock, mark_by(source, seed))
+}
+
 // The first so many logs of a source.
-fn totals(source: Source, count: u64) -> Tally {
-    let mut t = none();
+fn totals(source: Source, timed: bool, count: u64) -> Tally {
+    let mut t = empty();
     for seed in 0..count {
-        let l = log_by(source, seed);
-        let bytes = l.bytes;
-        let next = with_log(t, &bytes, l.length, seed, mark_by(source, seed));
+        let next = with_source(t, source, timed, seed);
         t = next;
     }
     t
 }
 
 fn small(kind: u8) -> Tally {
-    totals(Source::Small(kind), SMALL)
+    totals(Source::Small(kind), false, SMALL)
+}
+
+fn small_timed(kind: u8) -> Tally {
+    totals(Source::Small(kind), true, SMALL)
 }
 
 fn few_keys(kind: u8) -> Tally {
-    totals(Source::FewKeys(kind), FULL)
+    totals(Source::FewKeys(kind), false, FULL)
 }
 
-fn full(shape: Shape) -> Tally {
-    totals(Source::Windows(shape), FULL)
+fn few_keys_timed(kind: u8) -> Tally {
+    totals(Source::FewKeys(kind), true, FULL)
+}
+
+fn full(shape: Shape, timed: bool) -> Tally {
+    totals(Source::Windows(shape), timed, FULL)
 }
 
 // ---- the output
@@ -296,6 +385,12 @@ fn print(name: &[u8], t: Tally) {
     text(name);
     text(b": logs with read-backs");
     number(t.backs);
+    if t.timed > 0 {
+        text(b", with times");
+        number(t.timed);
+        text(b", with an edge by the clock");
+        number(t.edged);
+    }
     text(b"; polygraphs");
     number(t.polygraphs);
     text(b", constraints");
@@ -312,36 +407,36 @@ fn print(name: &[u8], t: Tally) {
 }
 
 // Windows whose transactions read and write each of their keys.
-fn print_pairs(name: &[u8], width: u64, loose: bool) {
+fn print_pairs(name: &[u8], width: u64, loose: bool, timed: bool) {
     let shape = Shape {
         form: Form::Pairs,
         sparse: 1,
         width,
         loose,
     };
-    print(name, full(shape));
+    print(name, full(shape, timed));
 }
 
 // Windows whose transactions read or write each of their keys: one operation of so many reads.
-fn print_singles(name: &[u8], sparse: u64, width: u64) {
+fn print_singles(name: &[u8], sparse: u64, width: u64, timed: bool) {
     let shape = Shape {
         form: Form::Singles,
         sparse,
         width,
         loose: false,
     };
-    print(name, full(shape));
+    print(name, full(shape, timed));
 }
 
 // Windows whose transactions read back each key that they write.
-fn print_backs(name: &[u8], width: u64, loose: bool) {
+fn print_backs(name: &[u8], width: u64, loose: bool, timed: bool) {
     let shape = Shape {
         form: Form::Backs,
         sparse: 1,
         width,
         loose,
     };
-    print(name, full(shape));
+    print(name, full(shape, timed));
 }
 
 fn asking(encoding: u8, pruning: u8, places: usize, words: usize) -> Lent {
@@ -377,7 +472,7 @@ fn settings() -> Tally {
     let c = loaded(
         b"\x02\x00\x02\x00\x00\x01\x00\x00\x01\x01\x01\x00\x01\x00\x05\x00\x01\x00\x07\x00",
     );
-    let a = with_refusal(none(), c, asking(3, 0, 4096, 32), 12);
+    let a = with_refusal(empty(), c, asking(3, 0, 4096, 32), 12);
     let b = with_refusal(a, c, asking(255, 1, 4096, 32), 12);
     let d = with_refusal(b, c, asking(0, 2, 4096, 32), 12);
     with_refusal(d, c, asking(2, 255, 0, 31), 12)
@@ -385,12 +480,33 @@ fn settings() -> Tally {
 
 // A fresh case, also where the setting is out of range and the lists are too short.
 fn blanks() -> Tally {
-    let a = with_refusal(none(), Case::fresh(), asking(0, 0, 4096, 32), 22);
+    let a = with_refusal(empty(), Case::fresh(), asking(0, 0, 4096, 32), 22);
     let b = with_refusal(a, Case::fresh(), asking(2, 1, 0, 31), 22);
     with_refusal(b, Case::fresh(), asking(3, 2, 0, 0), 22)
 }
 
-fn main() {
+// A case with another count of times and another drift.
+fn with_times(c: Case, count: usize, drift: u32) -> Case {
+    let mut clock = none();
+    clock.count = count;
+    clock.drift = drift;
+    let mut out = c;
+    out.clock = clock;
+    out
+}
+
+// Cases of two transactions that count as fresh by their times, and one that does not.
+fn odd_times() -> Tally {
+    let c = loaded(
+        b"\x02\x00\x02\x00\x00\x01\x00\x00\x01\x01\x01\x00\x01\x00\x05\x00\x01\x00\x07\x00",
+    );
+    let a = with_refusal(empty(), with_times(c, 1, 0), asking(0, 0, 4096, 32), 22);
+    let b = with_refusal(a, with_times(c, 33, 0), asking(2, 1, 0, 31), 22);
+    let d = with_refusal(b, with_times(c, 0, 3601), asking(3, 2, 0, 0), 22);
+    with_refusal(d, with_times(c, 2, 3600), asking(3, 2, 0, 0), 12)
+}
+
+fn small_histories() {
     print(b"any reads", small(trial::ANY));
     print(b"serial runs", small(trial::SERIAL));
     print(b"one read disturbed", small(trial::DISTURBED));
@@ -403,20 +519,124 @@ fn main() {
     );
     print(b"32 transactions, blind writes", few_keys(trial::BLIND));
     print(b"32 transactions, chains", few_keys(trial::CHAINS));
-    print_pairs(b"full windows, 4 keys read and written", 1, false);
-    print_pairs(b"full windows, 32 keys read and written", 8, false);
-    print_pairs(b"full windows, 16 keys, some reads of anything", 4, true);
-    print_singles(b"full windows, 8 keys read or written", 2, 1);
-    print_singles(b"full windows, 32 keys read or written", 2, 4);
-    print_singles(b"full windows, 8 keys, one operation of 32 reads", 32, 1);
-    print_singles(b"full windows, 32 keys, one operation of 16 reads", 16, 4);
-    print_backs(b"full windows, 3 keys written and read back", 1, false);
-    print_backs(b"full windows, 24 keys written and read back", 8, false);
+}
+
+fn full_windows() {
+    print_pairs(b"full windows, 4 keys read and written", 1, false, false);
+    print_pairs(b"full windows, 32 keys read and written", 8, false, false);
+    print_pairs(
+        b"full windows, 16 keys, some reads of anything",
+        4,
+        true,
+        false,
+    );
+}
+
+// Windows whose transactions read or write each key, and those whose transactions read back.
+fn further_windows() {
+    print_singles(b"full windows, 8 keys read or written", 2, 1, false);
+    print_singles(b"full windows, 32 keys read or written", 2, 4, false);
+    print_singles(
+        b"full windows, 8 keys, one operation of 32 reads",
+        32,
+        1,
+        false,
+    );
+    print_singles(
+        b"full windows, 32 keys, one operation of 16 reads",
+        16,
+        4,
+        false,
+    );
+    print_backs(
+        b"full windows, 3 keys written and read back",
+        1,
+        false,
+        false,
+    );
+    print_backs(
+        b"full windows, 24 keys written and read back",
+        8,
+        false,
+        false,
+    );
     print_backs(
         b"full windows, 12 keys read back, some reads of anything",
         4,
         true,
+        false,
     );
+}
+
+fn small_with_times() {
+    print(b"with times, any reads", small_timed(trial::ANY));
+    print(b"with times, serial runs", small_timed(trial::SERIAL));
+    print(
+        b"with times, one read disturbed",
+        small_timed(trial::DISTURBED),
+    );
+    print(b"with times, blind writes", small_timed(trial::BLIND));
+    print(
+        b"with times, read-modify-write chains",
+        small_timed(trial::CHAINS),
+    );
+    print(
+        b"with times, 32 transactions, any reads",
+        few_keys_timed(trial::ANY),
+    );
+    print(
+        b"with times, 32 transactions, blind writes",
+        few_keys_timed(trial::BLIND),
+    );
+    print(
+        b"with times, 32 transactions, chains",
+        few_keys_timed(trial::CHAINS),
+    );
+}
+
+fn full_with_times() {
+    print_pairs(
+        b"with times, full windows, 32 keys read and written",
+        8,
+        false,
+        true,
+    );
+    print_pairs(
+        b"with times, full windows, 16 keys, some reads of anything",
+        4,
+        true,
+        true,
+    );
+    print_singles(
+        b"with times, full windows, 32 keys read or written",
+        2,
+        4,
+        true,
+    );
+    print_singles(
+        b"with times, full windows, 32 keys, one operation of 16 reads",
+        16,
+        4,
+        true,
+    );
+    print_backs(
+        b"with times, full windows, 24 keys written and read back",
+        8,
+        false,
+        true,
+    );
+}
+
+fn main() {
+    small_histories();
+    full_windows();
+    further_windows();
+    small_with_times();
+    full_with_times();
     print_refusals(b"settings out of range", settings());
     print_refusals(b"a fresh case", blanks());
+    print_refusals(
+        b"cases that count as fresh by their times, and one that does not",
+        odd_times(),
+    );
 }

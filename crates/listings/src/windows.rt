@@ -171,7 +171,7 @@ fn with_operation(w: Window, shape: Shape, t: u64, j: u64, seed: u64) -> Window 
 }
 
 // The order of the run: 0, 1, 2 and on, or a random one.
-fn order_of(seed: u64) -> [u8; 32] {
+pub fn order_of(seed: u64) -> [u8; 32] {
     if seed / 2 % 2 == 0 {
         return trial::orders::ascending();
     }

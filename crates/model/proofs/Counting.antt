@@ -14,6 +14,7 @@ use lib.ListN.{length, length-map}
 use Rattle.model.specs.Lists.{All, all, keep, each, total, upTo}
 use Rattle.model.specs.History.{History, Operation, size, operationsOf, operationCount, isRead, isWrite, isReadBack, outward, outwardOf, readBacks, keysOnce, goodKeys, writes}
 use Rattle.model.specs.Log.{loadNumber, historyOf}
+use Rattle.model.specs.Times.{Times, timedHistory}
 use Rattle.model.specs.Writing.{countOf}
 use Rattle.model.specs.Polygraph.{Constraint, goodRead, plainOf, plain, between, joinedOn, joined, chainedOn, chained, isHead, tail, ends, only, constraints}
 use Rattle.model.specs.Keys.{perOperation, ofKey, countOn, plainOn, constraintsOn}
@@ -23,6 +24,7 @@ use Rattle.model.proofs.Closed.{fewer}
 use Rattle.model.proofs.Known.{Loadable, outward-keys}
 use Rattle.model.proofs.Central.{head-writes}
 use Rattle.model.proofs.Loaded.{history-size, keys-good, loadable-log, kinds-log, operations-few}
+use Rattle.model.proofs.Times.{timed-operations, timed-loadable, timed-constraints, timed-log-size}
 use Rattle.model.proofs.Bounds.{Kind, code, once}
 use Rattle.model.proofs.Logs.{counts-all}
 use Rattle.model.proofs.Sums.{total-le, total-mono, total-below, total-same, total-add, total-times, total-swap, total-upTo, total-by-key, length-total, length-keep, length-each, keep-le, keep-both, keep-after, keep-count, keep-found, keep-apart, pairs-few, above, pairs-half}
@@ -73,6 +75,18 @@ counted-log b taken = record {
   loads = loadable-log b taken;
   one = λ t k l. reads-one (historyOf b) t k (kinds-log b taken t) (keys-good b taken t (subst (λ n. t < n) (history-size b) l));
 }
+
+-- so with any times beside it
+pub counted-timed : (b : List ℕ) → loadNumber b ≡ 0 → (ts : Times) → Countable (timedHistory b ts)
+counted-timed b taken ts =
+    let h = historyOf b in
+    let ops : (t : ℕ) → operationsOf h t ≡ operationsOf (timedHistory b ts) t = λ t. sym (timed-operations ts h t) in
+    record {
+      loads = timed-loadable ts h (loadable-log b taken);
+      one = λ t k l.
+          reads-one (timedHistory b ts) t k (subst (All Kind) (ops t) (kinds-log b taken t))
+          (subst (λ os. T (goodKeys t os)) (ops t) (keys-good b taken t (subst (λ n. t < n) (timed-log-size b ts) l)));
+    }
 
 -- ---- one key
 
@@ -316,13 +330,15 @@ keys-bound h ok e m c few =
           total-times (countOn h) c ks,
         )
 
-module _ (b : List ℕ) (taken : loadNumber b ≡ 0) (e : ℕ) where
-  -- The constraints are at most 16 for each operation ..
-  pub constraints-bound : length (constraints (historyOf b) e) ≤ perOperation * operationCount (historyOf b)
-  constraints-bound =
-      let ok = counted-log b taken in
-      omega (arith, keys-bound (historyOf b) (ok .loads) e 1 perOperation (λ k. omega (arith, key-bound (historyOf b) ok k e)))
+-- The constraints are at most 16 for each operation ..
+pub constraints-bound : (h : History) → Countable h → (e : ℕ) → length (constraints h e) ≤ perOperation * operationCount h
+constraints-bound h ok e = omega (arith, keys-bound h (ok .loads) e 1 perOperation (λ k. omega (arith, key-bound h ok k e)))
 
+module _ (b : List ℕ) (taken : loadNumber b ≡ 0) (e : ℕ) where
   -- .. and a log that Load takes has at most 256.
   pub constraints-log : length (constraints (historyOf b) e) ≤ 4096
-  constraints-log = omega (arith, constraints-bound, operations-few b taken)
+  constraints-log = omega (arith, constraints-bound (historyOf b) (counted-log b taken) e, operations-few b taken)
+
+  -- So has it with any times beside it.
+  pub constraints-timed : (ts : Times) → length (constraints (timedHistory b ts) e) ≤ 4096
+  constraints-timed ts = omega (arith, ap (λ (f : ℕ → List Constraint). length (f e)) (timed-constraints ts (historyOf b)), constraints-log)

@@ -1,44 +1,47 @@
--- The demands on the definitions, in the demands' own words. `b` is a list of bytes, `h` the history that it holds, `e` the encoding and `pruning` the
--- second number of the setting. Each theorem cites the law that proves it, and says itself what it asks of b or h: mostly that Load takes b, and where it
--- needs it that b is a list of bytes.
+-- The demands on the definitions, in the demands' own words. `b` is a list of bytes, `ts` the times beside it, `h` the history that they hold, `e` the encoding
+-- and `pruning` the second number of the setting. Each theorem cites the law that proves it, and says itself what it asks of b, ts or h: mostly that Load takes b
+-- with ts, and where it needs it that b is a list of bytes.
 -- What the calls do is held to these definitions by their contracts (crates `checker` and `writer`).
-use Prim.Native.Nat.{ℕ, _*_, _-_, _≤_, _<_}
+use Prim.Native.Nat.{ℕ, _+_, _*_, _-_, _≤_, _<_}
 use native.Mathlib.Omega.{arith}
-use mathlib.Core.Path.{_≡_, refl, sym, subst}
+use mathlib.Core.Path.{_≡_, refl, sym, ap, subst, _∙_}
 use mathlib.Core.Logic.{_⊎_, _↔_, _≢_}
-use mathlib.Core.Bool.{false, _&&_}
+use mathlib.Core.Bool.{false, _&&_, _||_}
 use mathlib.Core.Option.{none, some}
-use mathlib.Core.List.{List}
-use lib.Dec.{T}
+use mathlib.Core.List.{List, []}
+use lib.Dec.{T, ltb}
 use lib.ListN.{length, getD}
 use Rattle.model.specs.Lists.{All, any, each, total, upTo, upToElement}
-use Rattle.model.specs.History.{Operation, History, start, size, operationsOf, operationCount, isReadBack, readBacks, goodKeys, wellFormed, writes, reads, lastWriter, everyReadExplained, everyReadNamesWhatItSees, isOrder, keepsCabinets, legal, replay, sees, valueOf, valueSeen, everyReadSeesItsWritersValue, everyReadSeesTheValueItNames, withoutReadBacks}
-use Rattle.model.specs.Log.{startAt, backAt, bodyNumber, loadNumber, historyOf, LaidOut}
+use Rattle.model.specs.History.{Operation, History, start, size, operationsOf, operationCount, isReadBack, readBacks, goodKeys, wellFormed, writes, reads, lastWriter, everyReadExplained, everyReadNamesWhatItSees, isOrder, endsBefore, keepsPrecedence, legal, replay, sees, valueOf, valueSeen, everyReadSeesItsWritersValue, everyReadSeesTheValueItNames, withoutReadBacks}
+use Rattle.model.specs.Log.{transactionsIn, startAt, backAt, bodyNumber, loadNumber, historyOf, LaidOut}
+use Rattle.model.specs.Times.{Times, times, noTimes, endedBefore, keepsClock, timed, Bare, withoutTimes, timedHistory, timedNumber}
 use Rattle.model.specs.Window.{Window, windowNumber}
-use Rattle.model.specs.Refusals.{Shorter, Longer, FirstRefused, SecondRead, SecondWrite}
+use Rattle.model.specs.Refusals.{Shorter, Longer, FirstRefused, SecondRead, SecondWrite, GoodTimes, Mismatched, Untimely}
+use Rattle.model.specs.Untimed.{untimedEdge, untimedPolygraph, keepsCabinets, untimedLegal, untimedFirst}
 use Rattle.model.specs.Writing.{logOf, hasLog}
-use Rattle.model.specs.Polygraph.{goodRead, edge, successor, Linked, isHead, tail, has, reach, pass, rows, constraints, unpruned, polygraph, Way, AcyclicSelection, Respects}
+use Rattle.model.specs.Polygraph.{Constraint, goodRead, edge, successor, Linked, isHead, tail, has, reach, pass, rows, constraints, unpruned, polygraph, Way, AcyclicSelection, Before, Respects}
 use Rattle.model.specs.Keys.{perOperation, countOn, constraintsOn}
 use Rattle.model.specs.Search.{firstLegal, LexLess}
-use Rattle.model.proofs.Loaded.{Bytes, operationOf, back-is, history-size, keys-good, well-formed, loadable-log}
+use Rattle.model.proofs.Loaded.{Bytes, operationOf, back-is, keys-good, well-formed}
+use Rattle.model.proofs.Times.{without-none, timed-none, number-none, untimed-edges, untimed-polygraph, untimed-legal, untimed-first, log-untimed, timed-operations, timed-constraints, timed-table, timed-edge, timed-legal, timed-log-size, timed-log, timed-times, times-good, loadable-timed, well-formed-timed, log-ends, log-edge}
 use Rattle.model.proofs.Numbers.{numbers-listed, shorter-iff, longer-iff, body-iff, read-out, read-in, write-out, write-in}
-use Rattle.model.proofs.Windows.{number-of-log, table-iff, window-numbers}
+use Rattle.model.proofs.Windows.{number-by-log, number-by-times, timed-numbers, lists-iff, untimely-iff, number-of-log, table-iff, window-numbers}
 use Rattle.model.proofs.Values.{replay-at, start-iff, sees-start, start-seen, writers-values, named-values}
 use Rattle.model.proofs.Takes.{takes, laid-out}
 use Rattle.model.proofs.Writing.{loads-back, same-bytes}
-use Rattle.model.proofs.Logs.{has-log-out, has-log-of, has-log-in, good-narrow, log-good}
-use Rattle.model.proofs.Twins.{goods-same, legal-same, first-same, polygraph-same, table-same, bare-alike}
+use Rattle.model.proofs.Logs.{has-log-out, has-log-bare, has-log-of, has-log-in, good-narrow, log-good}
+use Rattle.model.proofs.Twins.{goods-same, legal-same, first-same, polygraph-same, table-same, bare-alike, bare-clock}
 use Rattle.model.proofs.ReadBacks.{behind, backs-own, explained-sees}
-use Rattle.model.proofs.Basics.{and-r}
+use Rattle.model.proofs.Basics.{and-r, eq-T}
 use Rattle.model.proofs.Legal.{reads-small, bad-in, good-other, legal-out}
-use Rattle.model.proofs.Known.{kinds-out}
+use Rattle.model.proofs.Known.{Loadable, kinds-out}
 use Rattle.model.proofs.Pruning.{polygraph-iff, legal-iff, polygraph-done}
 use Rattle.model.proofs.Selection.{serializable, selections-kept, rows-reached}
 use Rattle.model.proofs.First.{first-some, first-none}
 use Rattle.model.proofs.Tails.{tail-final}
 use Rattle.model.proofs.Rings.{successor-lowest, tail-linked, ring-no-head, ring-no-chain}
-use Rattle.model.proofs.Counting.{counted-log, key-bound, all-operations, all-constraints, listed-by-key, constraints-bound, constraints-log}
-use Rattle.model.proofs.Largest.{plain-3840, joined-3968, chained-3968, round, blind, round-3840, blind-3968, blind-key-496}
+use Rattle.model.proofs.Counting.{Countable, counted-timed, key-bound, all-operations, all-constraints, listed-by-key, constraints-bound, constraints-timed}
+use Rattle.model.proofs.Largest.{plain-3840, joined-3968, chained-3968, round, blind, round-3840, blind-3968, blind-key-496, round-bare, blind-bare}
 
 -- Load takes only what document 01 and card 1 let through: a history of at most 32 transactions and 256 operations, each transaction with at most one read of a
 -- key that looks at earlier transactions, then one write, then one read-back that names the transaction, every field in its range.
@@ -53,7 +56,7 @@ load-takes-only-laid-out b taken = laid-out b taken
 pub load-takes-every-well-formed : (b : List ℕ) → LaidOut b → T (wellFormed (historyOf b)) → loadNumber b ≡ 0
 load-takes-every-well-formed b laid good = takes b laid good
 
--- ---- what the numbers of a log tell: of any bytes, beside a starting table of 32 values
+-- ---- what the numbers of a log tell: of any bytes, beside a starting table of 32 values and times that are taken
 
 -- The numbers of a log are 0, 1 to 11, 34 and 35.
 pub numbers-of-a-log : (b : List ℕ) → (loadNumber b ≤ 11) ⊎ ((loadNumber b ≡ 34) ⊎ (loadNumber b ≡ 35))
@@ -88,19 +91,22 @@ thirty-four-exactly-at-a-second-write b =
 
 -- ---- the log of a history
 
--- What would be written of any history reads back as it, also where it is no list of bytes ..
-pub a-history-comes-back-from-its-log : (h : History) → historyOf (logOf h) ≡ h
+-- What would be written of any history reads back as it, also where it is no list of bytes, but for its times: a log has none ..
+pub a-history-comes-back-from-its-log : (h : History) → historyOf (logOf h) ≡ withoutTimes h
 a-history-comes-back-from-its-log h = loads-back h
+
+pub and-as-it-was-without-times : (h : History) → All Bare h → withoutTimes h ≡ h
+and-as-it-was-without-times h bare = without-none h bare
 
 -- .. and a log that Load takes, read and written again, is the same bytes.
 pub a-log-comes-back-from-its-history : (b : List ℕ) → Bytes b → loadNumber b ≡ 0 → logOf (historyOf b) ≡ b
 a-log-comes-back-from-its-history b bytes taken = same-bytes b bytes taken
 
--- A history has a log exactly where a log that Load takes holds it.
-pub has-a-log-exactly-where-one-holds-it : (h : History) → T (hasLog h) ↔ ((b : List ℕ) × (Bytes b × ((loadNumber b ≡ 0) × (historyOf b ≡ h))))
+-- A history has a log exactly where a log that Load takes holds it, but for its times.
+pub has-a-log-exactly-where-one-holds-it : (h : History) → T (hasLog h) ↔ ((b : List ℕ) × (Bytes b × ((loadNumber b ≡ 0) × (historyOf b ≡ withoutTimes h))))
 has-a-log-exactly-where-one-holds-it h = (
   (λ t. let log = has-log-out h t in (logOf h, (log .0, (log .1, loads-back h)))),
-  λ x. subst (λ g. T (hasLog g)) (x .1 .1 .1) (has-log-of (x .0) (x .1 .0) (x .1 .1 .0)),
+  λ x. eq-T (has-log-bare noTimes h) (subst (λ g. T (hasLog g)) (x .1 .1 .1) (has-log-of (x .0) (x .1 .0) (x .1 .1 .0))),
 )
 
 -- These are the well-formed histories ..
@@ -113,19 +119,20 @@ well-formed-counts-have-their-byte h good t l = good-narrow h good t l
 
 -- ---- read-backs
 
-keys-of : (b : List ℕ) → loadNumber b ≡ 0 → (t : ℕ) → t < size (historyOf b) → T (goodKeys t (operationsOf (historyOf b) t))
-keys-of b taken t l = keys-good b taken t (subst (λ n. t < n) (history-size b) l)
+keys-of : (b : List ℕ) (ts : Times) → timedNumber b ts ≡ 0 → (t : ℕ) → t < size (timedHistory b ts) → T (goodKeys t (operationsOf (timedHistory b ts) t))
+keys-of b ts taken t l =
+    subst (λ os. T (goodKeys t os)) (sym (timed-operations ts (historyOf b) t)) (keys-good b (timed-log b ts taken) t (subst (λ n. t < n) (timed-log-size b ts) l))
 
 -- In a loaded log a read-back, by its definition a read with a write of its key before it in its transaction, names its own transaction.
-pub read-backs-name-their-own : (b : List ℕ) → loadNumber b ≡ 0 → let h = historyOf b in
+pub read-backs-name-their-own : (b : List ℕ) (ts : Times) → timedNumber b ts ≡ 0 → let h = timedHistory b ts in
     (t : ℕ) → t < size h → All (λ o. (o .argument ≡ t) × T (writes h t (o .key))) (readBacks (operationsOf h t))
-read-backs-name-their-own b taken t l = backs-own (historyOf b) t (keys-of b taken t l)
+read-backs-name-their-own b ts taken t l = backs-own (timedHistory b ts) t (keys-of b ts taken t l)
 
 -- So 'every read explained' means in a loaded log that every read names what it sees: a read-back its own transaction's write, any other read the last
 -- earlier writer of the key, or the start.
-pub explained-by-what-it-sees : (b : List ℕ) → loadNumber b ≡ 0 → (o : List ℕ)
-    → everyReadExplained (historyOf b) o ≡ everyReadNamesWhatItSees (historyOf b) o
-explained-by-what-it-sees b taken = explained-sees (historyOf b) (keys-of b taken)
+pub explained-by-what-it-sees : (b : List ℕ) (ts : Times) → timedNumber b ts ≡ 0 → let h = timedHistory b ts in
+    (o : List ℕ) → everyReadExplained h o ≡ everyReadNamesWhatItSees h o
+explained-by-what-it-sees b ts taken = explained-sees (timedHistory b ts) (keys-of b ts taken)
 
 -- The place of an operation in its transaction, and that of its body in the log, say the same of it.
 pub read-backs-by-their-bytes : (b : List ℕ) (t m : ℕ) → isReadBack (behind (operationOf b t) m) (operationOf b t m) ≡ backAt b (startAt b t) m
@@ -139,63 +146,119 @@ pub read-backs-add-nothing : (h : History) → let g = withoutReadBacks h in
 read-backs-add-nothing h =
     let a = bare-alike h in
     let g = withoutReadBacks h in
-    (goods-same g h a, legal-same g h a, first-same g h a, polygraph-same g h a, table-same g h a)
+    let c = bare-clock h in
+    (goods-same g h a, legal-same g h a c, first-same g h a c, polygraph-same g h a c, table-same g h a)
 
 -- A read before the write that names its own transaction gives t → t in every encoding, and no order is legal, with or without a read-back behind it.
-pub own-read-unexplained : (b : List ℕ) → loadNumber b ≡ 0 → let h = historyOf b in
+pub own-read-unexplained : (b : List ℕ) (ts : Times) → timedNumber b ts ≡ 0 → let h = timedHistory b ts in
     (t k : ℕ) → T (reads h t k t) → ((e : ℕ) → T (edge h e t t)) × ((o : List ℕ) → T (legal h o) → ⊥)
-own-read-unexplained b taken t k r =
-    let h = historyOf b in
-    let ok = loadable-log b taken in
+own-read-unexplained b ts taken t k r =
+    let h = timedHistory b ts in
+    let ok = loadable-timed b ts taken in
     let small = reads-small h t k t r in
     let bad = bad-in h t k t r (λ (e : t ≡ start). omega (arith, ok .few)) (λ g. good-other h k t t g refl) in
     ((λ e. kinds-out h ok e (λ u v. T (edge h e u v)) (λ u v x. x) .bads t bad), λ o l. legal-out h (ok .few) o l .1 .bads t bad)
 
 -- ---- starting tables
 
--- 36 is given exactly to a window whose starting table isn't 32 values, whatever its log; any other window has its log's number. So the numbers of a
--- window are those of a log, and 36; Load tests 21 before them.
+-- 36 is given exactly to a window whose starting table isn't 32 values, whatever its log and its times; any other window has the number of these. So the numbers
+-- of a window are those of a log with times, and 36: 0 to 11 and 34 to 38. Load tests 21 before them.
 pub thirty-six-exactly-without-32-values : (w : Window) → (windowNumber w ≡ 36) ↔ (length (w .starting) ≢ 32)
 thirty-six-exactly-without-32-values w = table-iff w
 
-pub with-32-values-the-log-decides : (w : Window) → length (w .starting) ≡ 32 → windowNumber w ≡ loadNumber (w .bytes)
-with-32-values-the-log-decides w l = number-of-log w l
-
-pub numbers-of-a-window : (w : Window) → (windowNumber w ≤ 11) ⊎ ((windowNumber w ≡ 34) ⊎ ((windowNumber w ≡ 35) ⊎ (windowNumber w ≡ 36)))
+pub numbers-of-a-window : (w : Window) → (windowNumber w ≤ 11) ⊎ ((34 ≤ windowNumber w) × (windowNumber w ≤ 38))
 numbers-of-a-window w = window-numbers w
 
-module _ (b : List ℕ) (taken : loadNumber b ≡ 0) where
+pub with-32-values-log-and-times-decide : (w : Window) → length (w .starting) ≡ 32 → windowNumber w ≡ timedNumber (w .bytes) (w .clock)
+with-32-values-log-and-times-decide w l = number-of-log w l
+
+module _ (b : List ℕ) (ts : Times) (taken : timedNumber b ts ≡ 0) where
+  abbrev g : History
+  g = timedHistory b ts
+
+  ok : Loadable g
+  ok = loadable-timed b ts taken
+
   -- A replay has at a key the starting table's value where no transaction of it writes the key, that is where `lastWriter` gives the start; else what the
   -- last that does wrote there.
-  pub replay-at-a-key : (table xs : List ℕ) (k : ℕ) → k < length table → let h = historyOf b in let u = lastWriter h k start xs in
-      (getD (replay h table xs) k 0 ≡ valueOf h table k u) × ((u ≡ start) ↔ (any (λ x. writes h x k) xs ≡ false))
-  replay-at-a-key table xs k l = let few = loadable-log b taken .few in (replay-at (historyOf b) k few xs table l, start-iff (historyOf b) k few xs)
+  pub replay-at-a-key : (table xs : List ℕ) (k : ℕ) → k < length table → let u = lastWriter g k start xs in
+      (getD (replay g table xs) k 0 ≡ valueOf g table k u) × ((u ≡ start) ↔ (any (λ x. writes g x k) xs ≡ false))
+  replay-at-a-key table xs k l = (replay-at g k (ok .few) xs table l, start-iff g k (ok .few) xs)
 
   module _ (o : List ℕ) where
     -- A read by t sees the start exactly where no transaction before t writes its key, and it is no read-back; then it sees the starting table's value.
-    pub sees-the-start-exactly-without-an-earlier-writer : let h = historyOf b in (t : ℕ) → t < size h → (earlier : List Operation) (r : Operation)
-        → (sees h o t earlier r ≡ start) ↔ ((isReadBack earlier r ≡ false) × (any (λ x. writes h x (r .key)) (upToElement t o) ≡ false))
-    sees-the-start-exactly-without-an-earlier-writer t l earlier r = sees-start (historyOf b) (loadable-log b taken .few) o t l earlier r
+    pub sees-the-start-exactly-without-an-earlier-writer : (t : ℕ) → t < size g → (earlier : List Operation) (r : Operation)
+        → (sees g o t earlier r ≡ start) ↔ ((isReadBack earlier r ≡ false) × (any (λ x. writes g x (r .key)) (upToElement t o) ≡ false))
+    sees-the-start-exactly-without-an-earlier-writer t l earlier r = sees-start g (ok .few) o t l earlier r
 
-    pub and-then-sees-the-starting-value : let h = historyOf b in (t : ℕ) → t < size h → (earlier : List Operation) (r : Operation) → (table : List ℕ) → r .key < length table
-        → (isReadBack earlier r ≡ false) × (any (λ x. writes h x (r .key)) (upToElement t o) ≡ false) → valueSeen h table o t earlier r ≡ getD table (r .key) 0
-    and-then-sees-the-starting-value t l earlier r table low u = start-seen (historyOf b) (loadable-log b taken .few) o t l earlier r table low u
+    pub and-then-sees-the-starting-value : (t : ℕ) → t < size g → (earlier : List Operation) (r : Operation) → (table : List ℕ) → r .key < length table
+        → (isReadBack earlier r ≡ false) × (any (λ x. writes g x (r .key)) (upToElement t o) ≡ false) → valueSeen g table o t earlier r ≡ getD table (r .key) 0
+    and-then-sees-the-starting-value t l earlier r table low u = start-seen g (ok .few) o t l earlier r table low u
 
     module _ (table : List ℕ) (long : length table ≡ 32) where
       -- In any order the value that a read sees is that of the write, or of the start, that `sees` names ..
-      pub every-read-sees-its-writers-value : T (everyReadSeesItsWritersValue (historyOf b) table o)
+      pub every-read-sees-its-writers-value : T (everyReadSeesItsWritersValue g table o)
       every-read-sees-its-writers-value =
-          let h = historyOf b in
-          let ok = loadable-log b taken in
-          writers-values h (ok .few) table o (keys-of b taken) (λ t l. subst (λ n. All (λ r. r .key < n) (operationsOf h t)) (sym long) (ok .keys t))
+          writers-values g (ok .few) table o (keys-of b ts taken) (λ t l. subst (λ n. All (λ r. r .key < n) (operationsOf g t)) (sym long) (ok .keys t))
 
       -- .. and in a legal one the value that it names, from whatever starting table.
-      pub every-read-sees-the-value-it-names : T (legal (historyOf b) o) → T (everyReadSeesTheValueItNames (historyOf b) table o)
+      pub every-read-sees-the-value-it-names : T (legal g o) → T (everyReadSeesTheValueItNames g table o)
       unfolding legal
       every-read-sees-the-value-it-names l =
-          let h = historyOf b in
-          let explains = and-r (keepsCabinets h o) (everyReadExplained h o) (and-r (isOrder (size h) o) (keepsCabinets h o && everyReadExplained h o) l) in
-          named-values h table o every-read-sees-its-writers-value (subst T (explained-sees h (keys-of b taken) o) explains)
+          let explains = and-r (keepsPrecedence g o) (everyReadExplained g o) (and-r (isOrder (size g) o) (keepsPrecedence g o && everyReadExplained g o) l) in
+          named-values g table o every-read-sees-its-writers-value (subst T (explained-sees g (keys-of b ts taken) o) explains)
+
+-- ---- times
+
+-- Load takes a log with times exactly where it takes the log, and the lists are both empty or both of T entries, no begin is after its end, and the drift is at
+-- most 3,600.
+pub times-taken-exactly-when-good : (b : List ℕ) (ts : Times) → (timedNumber b ts ≡ 0) ↔ ((loadNumber b ≡ 0) × GoodTimes (transactionsIn b) ts)
+times-taken-exactly-when-good b ts = (
+  (λ e. (timed-log b ts e, timed-times b ts e)),
+  λ x. number-by-times b ts (x .0) ∙ times-good (transactionsIn b) ts (x .1),
+)
+
+-- A log that is refused has its own number, whatever the times ..
+pub a-refused-log-has-its-number : (b : List ℕ) (ts : Times) → loadNumber b ≢ 0 → timedNumber b ts ≡ loadNumber b
+a-refused-log-has-its-number b ts f = number-by-log b ts f
+
+-- .. so 37 and 38 follow 11: 37 is given exactly to lists of another length beside a log that is taken, and 38, of lists that match, to a begin after its end or a
+-- drift over 3,600.
+pub thirty-seven-exactly-when-mismatched : (b : List ℕ) (ts : Times) → (timedNumber b ts ≡ 37) ↔ Mismatched b ts
+thirty-seven-exactly-when-mismatched b ts = lists-iff b ts
+
+pub thirty-eight-exactly-when-untimely : (b : List ℕ) (ts : Times) → (timedNumber b ts ≡ 38) ↔ Untimely b ts
+thirty-eight-exactly-when-untimely b ts = untimely-iff b ts
+
+pub numbers-with-times : (b : List ℕ) (ts : Times)
+    → (timedNumber b ts ≤ 11) ⊎ ((timedNumber b ts ≡ 34) ⊎ ((timedNumber b ts ≡ 35) ⊎ ((timedNumber b ts ≡ 37) ⊎ (timedNumber b ts ≡ 38))))
+numbers-with-times b ts = timed-numbers b ts
+
+-- Beside the log's known edges a log with times has, in every encoding, one for every pair that the times order, and no other ..
+pub known-edges-of-the-clock : (b : List ℕ) (ts : Times) (e u v : ℕ) → let h = historyOf b in
+    edge (timedHistory b ts) e u v ≡ (edge h e u v || (ltb u (size h) && (ltb v (size h) && endedBefore ts u v)))
+known-edges-of-the-clock b ts = timed-edge (historyOf b) (log-untimed b) ts
+
+-- .. and an order is legal exactly where it is one that keeps each cabinet's own order and that of the times, and has every read explained.
+pub legal-with-times : (b : List ℕ) (ts : Times) (o : List ℕ) → let h = historyOf b in
+    legal (timedHistory b ts) o ≡ (isOrder (size h) o && ((keepsCabinets h o && keepsClock ts (size h) o) && everyReadExplained h o))
+legal-with-times b ts = timed-legal (historyOf b) (log-untimed b) ts
+
+-- Times change neither the constraints of a history nor what an order leaves, from any starting table.
+pub times-change-no-constraint : (h : History) (ts : Times) → let g = timed ts h in
+    (constraints g ≡ constraints h) × ((table o : List ℕ) → replay g table o ≡ replay h table o)
+times-change-no-constraint h ts = (timed-constraints ts h, timed-table ts h)
+
+-- A window without times gives what it gave before there were any, whatever its drift of at most 3,600: its number is the log's, its history is the log's, and of
+-- that history the known edges, the polygraph in every setting, the legal orders and the first of them are what they were (`Untimed`).
+pub without-times-as-before : (b : List ℕ) (drift : ℕ) → let h = historyOf b in
+    (drift ≤ 3600 → timedNumber b (times [] [] drift) ≡ loadNumber b) × (timedHistory b (times [] [] drift) ≡ h)
+    × ((e u v : ℕ) → edge h e u v ≡ untimedEdge h e u v) × ((e pruning : ℕ) → polygraph h e pruning ≡ untimedPolygraph h e pruning)
+    × ((o : List ℕ) → legal h o ≡ untimedLegal h o) × (firstLegal h ≡ untimedFirst h)
+without-times-as-before b drift =
+    let h = historyOf b in
+    let none = log-untimed b in
+    (number-none b drift, timed-none b drift, untimed-edges h none, untimed-polygraph h none, untimed-legal h none, untimed-first h none)
 
 -- ---- the first legal order: of every history, loaded or not
 
@@ -207,28 +270,44 @@ first-is-first h o e = first-some h o e
 pub none-is-none : (h : History) → firstLegal h ≡ none → (o : List ℕ) → T (legal h o) → ⊥
 none-is-none h e = first-none h e
 
-module _ (b : List ℕ) (taken : loadNumber b ≡ 0) where
+module _ (b : List ℕ) (ts : Times) (taken : timedNumber b ts ≡ 0) where
   abbrev h : History
-  h = historyOf b
+  h = timedHistory b ts
+
+  fit : Loadable h
+  fit = loadable-timed b ts taken
+
+  -- By the clock u comes before v exactly where u's end plus the drift is less than v's begin, a sum of natural numbers, which does not wrap; equal seconds
+  -- order nothing. There is then a known edge in every encoding, and every legal order keeps it.
+  pub the-clock-orders : (u v : ℕ) → u < transactionsIn b → v < transactionsIn b → T (endsBefore h u v) ↔ (getD (ts .ends) u 0 + ts .drift < getD (ts .begins) v 0)
+  the-clock-orders = log-ends b ts taken
+
+  pub the-clock-is-known : (e u v : ℕ) → u < transactionsIn b → v < transactionsIn b → getD (ts .ends) u 0 + ts .drift < getD (ts .begins) v 0 → T (edge h e u v)
+  the-clock-is-known = log-edge b ts taken
+
+  pub the-clock-is-kept : (o : List ℕ) → T (legal h o) → (u v : ℕ) → u < transactionsIn b → v < transactionsIn b → getD (ts .ends) u 0 + ts .drift < getD (ts .begins) v 0
+      → Before o u v
+  the-clock-is-kept o l u v hu hv e =
+      legal-out h (fit .few) o l .1 .times u v (omega (arith, timed-log-size b ts)) (omega (arith, timed-log-size b ts)) (log-ends b ts taken u v hu hv .1 e)
 
   module _ (e pruning : ℕ) (encoding : e < 3) where
     -- An order is legal exactly when it holds every number below T once and respects the polygraph: every known edge and, of every
     -- constraint, all edges of side A or all edges of side B.
     pub legal-exactly-when-respecting : (o : List ℕ) → T (legal h o) ↔ (T (isOrder (size h) o) × Respects o (polygraph h e pruning))
-    legal-exactly-when-respecting o = legal-iff h (loadable-log b taken) e pruning encoding o
+    legal-exactly-when-respecting o = legal-iff h fit e pruning encoding o
 
     -- An acyclic selection exists exactly when a legal order exists.
     pub selection-exactly-when-legal : ((o : List ℕ) × T (legal h o)) ↔ AcyclicSelection (polygraph h e pruning)
-    selection-exactly-when-legal = serializable h (loadable-log b taken) e pruning encoding
+    selection-exactly-when-legal = serializable h fit e pruning encoding
 
   module _ (e : ℕ) where
     -- Pruning changes neither which orders respect the polygraph ..
     pub pruning-keeps-orders : (o : List ℕ) → Respects o (unpruned h e) ↔ Respects o (polygraph h e 1)
-    pruning-keeps-orders o = polygraph-iff h (loadable-log b taken) e 1 o
+    pruning-keeps-orders o = polygraph-iff h fit e 1 o
 
     -- .. nor whether there is an acyclic selection.
     pub pruning-keeps-selections : AcyclicSelection (unpruned h e) ↔ AcyclicSelection (polygraph h e 1)
-    pruning-keeps-selections = selections-kept h (loadable-log b taken) e
+    pruning-keeps-selections = selections-kept h fit e
 
     -- Passes are repeated until one drops none: a further pass would drop none.
     pub passes-end : let p = polygraph h e 1 in length (pass (p .known) (p .choices) .choices) ≡ length (p .choices)
@@ -236,7 +315,7 @@ module _ (b : List ℕ) (taken : loadNumber b ≡ 0) where
 
     -- Reachability is paths of one or more edges, here of the known edges; `reach-way` and `way-reach` say it of any row words.
     pub reached-exactly-by-paths : (u v : ℕ) → T (has (reach (rows h e)) u v) ↔ Way (rows h e) u v
-    reached-exactly-by-paths u v = rows-reached h (loadable-log b taken) e u v
+    reached-exactly-by-paths u v = rows-reached h fit e u v
 
   module _ (bytes : Bytes b) (k g : ℕ) (head : T (isHead h k g)) where
     -- A chain runs by links from a head to a tail, and a tail has no successor.
@@ -244,14 +323,14 @@ module _ (b : List ℕ) (taken : loadNumber b ≡ 0) where
     chain-from-head-to-tail = tail-linked h k (size h) g
 
     pub tail-has-no-successor : successor h k (tail h k g) < size h → ⊥
-    tail-has-no-successor = tail-final h (well-formed b bytes taken) k g head
+    tail-has-no-successor = tail-final h (well-formed-timed b ts taken bytes) k g head
 
     -- Links in a ring have no head and give no chain: the head is in no ring, and its chain comes to none.
     pub head-in-no-ring : Linked h k g g → ⊥
     head-in-no-ring r = ring-no-head h k g r head
 
     pub chain-to-no-ring : (w : ℕ) → Linked h k g w → Linked h k w w → ⊥
-    chain-to-no-ring w c r = ring-no-chain h k (well-formed b bytes taken) g w head c r
+    chain-to-no-ring w c r = ring-no-chain h k (well-formed-timed b ts taken bytes) g w head c r
 
   -- The successor of a write is the lowest-numbered of the other transactions that write the key and have a good read of it from the write.
   pub successor-is-lowest : (k u v : ℕ) → v ≢ u → T (writes h v k) → T (goodRead h k v u) → successor h k u ≤ v
@@ -259,53 +338,63 @@ module _ (b : List ℕ) (taken : loadNumber b ≡ 0) where
 
 -- ---- how many constraints there are, before pruning
 
-module _ (b : List ℕ) (taken : loadNumber b ≡ 0) where
+module _ (b : List ℕ) (ts : Times) (taken : timedNumber b ts ≡ 0) where
+  abbrev held : History
+  held = timedHistory b ts
+
+  counted : Countable held
+  counted = counted-timed b (timed-log b ts taken) ts
+
   -- Every operation is on one of the 32 keys.
-  pub operations-key-by-key : operationCount (historyOf b) ≡ total (countOn (historyOf b)) (upTo 32)
-  operations-key-by-key = all-operations (historyOf b) 32 (loadable-log b taken .keys)
+  pub operations-key-by-key : operationCount held ≡ total (countOn held) (upTo 32)
+  operations-key-by-key = all-operations held 32 (counted .loads .keys)
 
   module _ (e : ℕ) where
     -- A key's constraints are at most 16 for each of its operations, in every encoding. Those of the 32 keys are as many as all, and in encodings 1 and 2 the
     -- list is theirs, one key after another ..
-    pub sixteen-for-each-operation-of-a-key : (k : ℕ) → length (constraintsOn (historyOf b) e k) ≤ perOperation * countOn (historyOf b) k
-    sixteen-for-each-operation-of-a-key k = key-bound (historyOf b) (counted-log b taken) k e
+    pub sixteen-for-each-operation-of-a-key : (k : ℕ) → length (constraintsOn held e k) ≤ perOperation * countOn held k
+    sixteen-for-each-operation-of-a-key k = key-bound held counted k e
 
-    pub constraints-key-by-key : length (constraints (historyOf b) e) ≡ total (λ k. length (constraintsOn (historyOf b) e k)) (upTo 32)
-    constraints-key-by-key = all-constraints (historyOf b) (loadable-log b taken) e
+    pub constraints-key-by-key : length (constraints held e) ≡ total (λ k. length (constraintsOn held e k)) (upTo 32)
+    constraints-key-by-key = all-constraints held (counted .loads) e
 
-    pub listed-key-by-key : e ≢ 0 → constraints (historyOf b) e ≡ each (constraintsOn (historyOf b) e) (upTo 32)
-    listed-key-by-key f = listed-by-key (historyOf b) e f
+    pub listed-key-by-key : e ≢ 0 → constraints held e ≡ each (constraintsOn held e) (upTo 32)
+    listed-key-by-key f = listed-by-key held e f
 
     -- .. so they are at most 16 for each operation of the log, and at most 4,096.
-    pub sixteen-for-each-operation : length (constraints (historyOf b) e) ≤ perOperation * operationCount (historyOf b)
-    sixteen-for-each-operation = constraints-bound b taken e
+    pub sixteen-for-each-operation : length (constraints held e) ≤ perOperation * operationCount held
+    sixteen-for-each-operation = constraints-bound held counted e
 
-    pub at-most-4096-constraints : length (constraints (historyOf b) e) ≤ 4096
-    at-most-4096-constraints = constraints-log b taken e
+    pub at-most-4096-constraints : length (constraints held e) ≤ 4096
+    at-most-4096-constraints = constraints-timed b (timed-log b ts taken) e ts
+
+    -- as many as without the times
+    alone : length (constraints held e) ≡ length (constraints (historyOf b) e)
+    alone = ap (λ (f : ℕ → List Constraint). length (f e)) (timed-constraints ts (historyOf b))
 
   -- The most in each encoding are fewer ..
-  pub at-most-3840-plain : length (constraints (historyOf b) 0) ≤ 3840
-  at-most-3840-plain = plain-3840 b taken
+  pub at-most-3840-plain : length (constraints held 0) ≤ 3840
+  at-most-3840-plain = omega (arith, alone 0, plain-3840 b (timed-log b ts taken))
 
-  pub at-most-3968-joined : length (constraints (historyOf b) 1) ≤ 3968
-  at-most-3968-joined = joined-3968 b taken
+  pub at-most-3968-joined : length (constraints held 1) ≤ 3968
+  at-most-3968-joined = omega (arith, alone 1, joined-3968 b (timed-log b ts taken))
 
-  pub at-most-3968-chained : length (constraints (historyOf b) 2) ≤ 3968
-  at-most-3968-chained = chained-3968 b taken
+  pub at-most-3968-chained : length (constraints held 2) ≤ 3968
+  at-most-3968-chained = omega (arith, alone 2, chained-3968 b (timed-log b ts taken))
 
 -- some log that Load takes holds such a history
 abbrev Occurs : (History → Type 0) → Type 0
 Occurs P = (b : List ℕ) × (Bytes b × ((loadNumber b ≡ 0) × P (historyOf b)))
 
-occurs : (P : History → Type 0) (h : History) → T (wellFormed h) → P h → Occurs P
-occurs P h good p = let log = has-log-out h (has-log-in h good) in (logOf h, (log .0, (log .1, subst P (sym (loads-back h)) p)))
+occurs : (P : History → Type 0) (h : History) → All Bare h → T (wellFormed h) → P h → Occurs P
+occurs P h bare good p = let log = has-log-out h (has-log-in h good) in (logOf h, (log .0, (log .1, subst P (sym (loads-back h ∙ without-none h bare)) p)))
 
 -- .. and occur.
 pub a-log-with-3840-plain : Occurs (λ h. length (constraints h 0) ≡ 3840)
-a-log-with-3840-plain = occurs (λ h. length (constraints h 0) ≡ 3840) round (round-3840 .0) (round-3840 .1)
+a-log-with-3840-plain = occurs (λ h. length (constraints h 0) ≡ 3840) round round-bare (round-3840 .0) (round-3840 .1)
 
 pub a-log-with-3968-joined-and-chained : Occurs (λ h. (length (constraints h 1) ≡ 3968) × (length (constraints h 2) ≡ 3968))
-a-log-with-3968-joined-and-chained = occurs (λ h. (length (constraints h 1) ≡ 3968) × (length (constraints h 2) ≡ 3968)) blind (blind-3968 .0) (blind-3968 .1, blind-3968 .2)
+a-log-with-3968-joined-and-chained = occurs (λ h. (length (constraints h 1) ≡ 3968) × (length (constraints h 2) ≡ 3968)) blind blind-bare (blind-3968 .0) (blind-3968 .1, blind-3968 .2)
 
 -- 16 is the least that holds in encodings 1 and 2: 32 writers of a key that nobody reads give 496 constraints, and 15 for each of its 32 operations are 480.
 -- (Plain constraints are at most 15 for each operation: `Largest`.)
@@ -315,4 +404,4 @@ NoFewerFor e h = (length (constraintsOn h e 0) ≤ perOperation * countOn h 0) �
 pub sixteen-is-the-least : Occurs (λ h. NoFewerFor 1 h × NoFewerFor 2 h)
 sixteen-is-the-least =
     let k = blind-key-496 in
-    occurs (λ h. NoFewerFor 1 h × NoFewerFor 2 h) blind (blind-3968 .0) ((omega (arith, k .0, k .1), omega (arith, k .0, k .1)), (omega (arith, k .0, k .2), omega (arith, k .0, k .2)))
+    occurs (λ h. NoFewerFor 1 h × NoFewerFor 2 h) blind blind-bare (blind-3968 .0) ((omega (arith, k .0, k .1), omega (arith, k .0, k .1)), (omega (arith, k .0, k .2), omega (arith, k .0, k .2)))

@@ -11,7 +11,7 @@ use mathlib.Core.Option.{Option, none, some}
 use lib.Dec.{T, eqb}
 use lib.ListN.{length}
 use Rattle.model.specs.Lists.{All, keep, each, upTo, count}
-use Rattle.model.specs.History.{History, size, isOrder, keepsCabinets, everyReadExplained, legal}
+use Rattle.model.specs.History.{History, size, isOrder, keepsPrecedence, everyReadExplained, legal}
 use Rattle.model.specs.Search.{arrangements, firstOf, firstLegal, LexLess}
 use Rattle.model.proofs.Basics.{and-l, ne-eqb, same?, All-imp, All-every, All-app, All-keep-in, All-keep-out, All-each-in, All-each-out, All-map-in, All-map-out, upTo-in}
 use Rattle.model.proofs.Places.{Once, once-tail, count-here, count-there, order-out, order-once, order-length}
@@ -134,7 +134,7 @@ sorted-arrangements (suc m) xs a =
 
 pub legal-order : (h : History) (o : List ℕ) → T (legal h o) → T (isOrder (size h) o)
 unfolding legal
-legal-order h o t = and-l (isOrder (size h) o) (keepsCabinets h o && everyReadExplained h o) t
+legal-order h o t = and-l (isOrder (size h) o) (keepsPrecedence h o && everyReadExplained h o) t
 
 abbrev pub Found : History → Option (List ℕ) → Type 0
 Found h none = (o : List ℕ) → T (legal h o) → ⊥

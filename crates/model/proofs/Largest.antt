@@ -10,12 +10,13 @@ use mathlib.Core.Bool.{Bool, true, false, not, cond, _&&_}
 use mathlib.Core.List.{List, [], _∷_, map}
 use lib.Dec.{T, eqb, leb, eqb→eq, leb→le, nleb→lt}
 use lib.ListN.{length, length-map}
-use Rattle.model.specs.Lists.{keep, each, total, upTo}
-use Rattle.model.specs.History.{History, Operation, size, outwardOf, isRead, isReadBack, outward, readBacks, keysOnce, goodOperation, goodKeys, goodTransaction, wellFormed, writes, reads}
+use Rattle.model.specs.Lists.{All, keep, each, total, upTo}
+use Rattle.model.specs.History.{History, Operation, untimed, size, outwardOf, isRead, isReadBack, outward, readBacks, keysOnce, goodOperation, goodKeys, goodTransaction, wellFormed, writes, reads}
 use Rattle.model.specs.Log.{loadNumber, historyOf}
+use Rattle.model.specs.Times.{Bare}
 use Rattle.model.specs.Polygraph.{Constraint, goodRead, plainOf, plain, between, only, joined, isSuccessor, successor, isHead, tail, chained, constraints}
 use Rattle.model.specs.Keys.{ofKey, countOn, plainOn, constraintsOn}
-use Rattle.model.proofs.Basics.{and-r, true-eq, eqb-comm, decide}
+use Rattle.model.proofs.Basics.{and-r, true-eq, eqb-comm, decide, All-every, All-map-in}
 use Rattle.model.proofs.Words.{digit}
 use Rattle.model.proofs.Closed.{fewer}
 use Rattle.model.proofs.Legal.{writes-small, reads-small, good-reads, good-writes, good-other}
@@ -218,16 +219,24 @@ module _ (b : List ℕ) (taken : loadNumber b ≡ 0) where
 
 -- 32 transactions of one cabinet, each with these operations
 abbrev alike : (ℕ → List Operation) → History
-alike f = map (λ t. record { cabinet = 0; operations = f t }) (upTo 32)
+alike f = map (λ t. untimed 0 (f t)) (upTo 32)
+
+alike-bare : (f : ℕ → List Operation) → All Bare (alike f)
+alike-bare f = All-map-in Bare (λ t. untimed 0 (f t)) (upTo 32) (All-every (λ t. Bare (untimed 0 (f t))) (λ t. (refl, refl)) (upTo 32))
 
 -- each reads keys 0 to 3 from the one before it, transaction 0 from 31, and writes them
+abbrev roundOf : ℕ → List Operation
+roundOf t = each (λ k. record { kind = 0; key = k; argument = (t + 31) % 32 } ∷ (record { kind = 1; key = k; argument = 0 } ∷ [])) (upTo 4)
+
 abbrev pub round : History
-round =
-    alike (λ t. each (λ k. record { kind = 0; key = k; argument = (t + 31) % 32 } ∷ (record { kind = 1; key = k; argument = 0 } ∷ [])) (upTo 4))
+round = alike roundOf
 
 -- each writes keys 0 to 7
+abbrev blindOf : ℕ → List Operation
+blindOf t = map (λ k. record { kind = 1; key = k; argument = 0 }) (upTo 8)
+
 abbrev pub blind : History
-blind = alike (λ t. map (λ k. record { kind = 1; key = k; argument = 0 }) (upTo 8))
+blind = alike blindOf
 
 pub round-3840 : T (wellFormed round) × (length (constraints round 0) ≡ 3840)
 unfolding wellFormed goodTransaction goodOperation goodKeys outward readBacks isReadBack keysOnce constraints plain plainOf goodRead reads writes
@@ -241,3 +250,10 @@ blind-3968 = (tt, refl, refl)
 pub blind-key-496 : (countOn blind 0 ≡ 32) × (length (constraintsOn blind 1 0) ≡ 496) × (length (constraintsOn blind 2 0) ≡ 496)
 unfolding constraintsOn between isHead isSuccessor successor goodRead outward isReadBack reads writes
 blind-key-496 = (refl, refl, refl)
+
+-- neither has times
+pub round-bare : All Bare round
+round-bare = alike-bare roundOf
+
+pub blind-bare : All Bare blind
+blind-bare = alike-bare blindOf

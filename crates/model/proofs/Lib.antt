@@ -19,6 +19,7 @@ pub mod Closed
 pub mod ReadBacks
 pub mod Loaded
 pub mod Twins
+pub mod Times
 pub mod Numbers
 pub mod Windows
 pub mod Values

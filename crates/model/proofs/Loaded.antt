@@ -77,7 +77,7 @@ skip-either : (a r : Bool) (m n x : ℕ) → cond a (cond r (suc m) (suc n)) x �
 skip-either a true m n x e = skip a m x e
 skip-either a false m n x e = skip a n x e
 
-need : (a : Bool) (n x : ℕ) → cond a x (suc n) ≡ 0 → T a × (x ≡ 0)
+pub need : (a : Bool) (n x : ℕ) → cond a x (suc n) ≡ 0 → T a × (x ≡ 0)
 need true n x e = (tt, e)
 need false n x e = absurd (omega arith)
 

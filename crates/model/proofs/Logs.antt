@@ -9,13 +9,15 @@ use lib.ListN.{length, getD, List·getD-eq-default}
 use Rattle.model.specs.Lists.{All, implies, all, each, upTo}
 use Rattle.model.specs.History.{History, Transaction, Operation, start, size, noTransaction, isRead, cabinetOf, operationsOf, operationCount, goodOperation, goodKeys, goodTransaction, wellFormed}
 use Rattle.model.specs.Log.{loadNumber, historyOf, LaidOut}
+use Rattle.model.specs.Times.{Times, noTimes, timed}
 use Rattle.model.specs.Writing.{sumOf, headBytes, bodyBytes, countOf, entryOf, allOperations, logOf, isLog, hasLog}
-use Rattle.model.proofs.Basics.{true-eq, and-l, and-r, and-in, eq-eqb, all-in, all-out, all-upTo-out, All-imp, All-app, All-each-in, upTo-in}
+use Rattle.model.proofs.Basics.{true-eq, eq-T, and-l, and-r, and-in, eq-eqb, all-in, all-out, all-upTo-out, All-imp, All-app, All-each-in, upTo-in}
 use Rattle.model.proofs.Words.{length-upTo}
 use Rattle.model.proofs.Loaded.{Bytes, well-formed}
+use Rattle.model.proofs.Times.{timed-all, timed-formed}
 use Rattle.model.proofs.Takes.{takes}
 use Rattle.model.proofs.Bounds.{good-short}
-use Rattle.model.proofs.Writing.{sum-mono, count-all, from-operations, every-history, everyOperation, log-from, table-laid-out, loads-back, same-bytes}
+use Rattle.model.proofs.Writing.{sum-mono, count-all, from-operations, log-bare, every-history, everyOperation, log-from, table-laid-out, loads-back, same-bytes}
 
 -- ---- bytes that Load takes
 
@@ -57,6 +59,11 @@ pub has-log-out : (h : History) → T (hasLog h) → Bytes (logOf h) × (loadNum
 unfolding hasLog
 has-log-out h t = is-log-out (logOf h) t
 
+-- times are no part of it
+pub has-log-bare : (ts : Times) (h : History) → hasLog (timed ts h) ≡ hasLog h
+unfolding hasLog
+has-log-bare ts h = ap isLog (log-bare ts h)
+
 -- the history of a log that Load takes has one
 pub has-log-of : (b : List ℕ) → Bytes b → loadNumber b ≡ 0 → T (hasLog (historyOf b))
 unfolding hasLog
@@ -67,7 +74,7 @@ has-log-of b small e = subst (λ x. T (isLog x)) (sym (same-bytes b small e)) (i
 log-laid-out : (h : History) → LaidOut (logOf h)
 log-laid-out h =
     let o = everyOperation h in
-    subst LaidOut (sym (log-from (size h) (cabinetOf h) (countOf h) o) ∙ ap logOf (every-history h)) (table-laid-out (size h) (cabinetOf h) (countOf h) o)
+    subst LaidOut (sym (log-from (size h) (cabinetOf h) (countOf h) o) ∙ ap logOf (every-history h) ∙ log-bare noTimes h) (table-laid-out (size h) (cabinetOf h) (countOf h) o)
 
 -- the counts of all transactions sum to that of all operations
 pub counts-all : (h : History) → sumOf (countOf h) (size h) ≡ operationCount h
@@ -75,7 +82,7 @@ counts-all h =
     let o = everyOperation h in
     let n = sumOf (countOf h) (size h) in
     sym (length-upTo o n)
-    ∙ ap length (sym (from-operations (size h) (cabinetOf h) (countOf h) o) ∙ ap allOperations (every-history h))
+    ∙ ap length (sym (from-operations (size h) (cabinetOf h) (countOf h) o) ∙ ap allOperations (every-history h) ∙ timed-all noTimes h)
     ∙ omega (arith, count-all 0 h)
 
 all-at : {A : Type 0} (P : A → Type 0) (d : A) (xs : List A) → ((i : ℕ) → i < length xs → P (getD xs i d)) → All P xs
@@ -177,7 +184,9 @@ module _ (h : History) (good : T (wellFormed h)) where
   unfolding hasLog
   has-log-in =
       is-log-in (logOf h) (bytes-out (logOf h) log-small)
-      (takes (logOf h) (log-laid-out h) (subst (λ g. T (wellFormed g)) (sym (loads-back h)) good))
+      (takes (logOf h) (log-laid-out h) (subst (λ g. T (wellFormed g)) (sym (loads-back h)) (eq-T (sym (timed-formed noTimes h)) good)))
 
 pub log-good : (h : History) → T (hasLog h) → T (wellFormed h)
-log-good h t = let b = has-log-out h t in subst (λ g. T (wellFormed g)) (loads-back h) (well-formed (logOf h) (b .0) (b .1))
+log-good h t =
+    let b = has-log-out h t in
+    eq-T (timed-formed noTimes h) (subst (λ g. T (wellFormed g)) (loads-back h) (well-formed (logOf h) (b .0) (b .1)))

@@ -1,5 +1,6 @@
--- Legality, the polygraph and the table look at a history only through its size, its cabinets, its writes and its operations without read-backs: where
--- two histories agree in these they are judged alike, as a history is without its read-backs. Assumes nothing.
+-- Legality, the polygraph and the table look at a history only through its size, its cabinets, its writes, its operations without read-backs and what the
+-- office clock orders: where two histories agree in these they are judged alike, as a history is without its read-backs. Constraints, reads and the table need
+-- no clock. Assumes nothing.
 use Prim.Native.Nat.{ℕ, zero, suc}
 use mathlib.Core.Path.{_≡_, refl, sym, ap, fun-ext, _∙_}
 use mathlib.Core.Bool.{Bool, true, false, not, cond, _&&_, _||_}
@@ -7,13 +8,13 @@ use mathlib.Core.List.{List, [], _∷_, map}
 use lib.Dec.{eqb, ltb}
 use lib.ListN.{length, getD, set}
 use Rattle.model.specs.Lists.{implies, all, any, keep, firstOr, fold, each, upTo, wordOf, upToElement}
-use Rattle.model.specs.History.{Transaction, History, start, size, noTransaction, withoutReadBacks, outward, cabinetOf, operationsOf, isRead, isWrite, outwardOf, mustPrecede, writes, reads, lastWriter, explained, everyReadExplained, isOrder, before, keepsCabinets, legal, stored, replay}
+use Rattle.model.specs.History.{Transaction, History, start, size, noTransaction, withoutReadBacks, outward, cabinetOf, operationsOf, isRead, isWrite, outwardOf, endsBefore, mustPrecede, writes, reads, lastWriter, explained, everyReadExplained, isOrder, before, keepsPrecedence, legal, stored, replay}
 use Rattle.model.specs.Polygraph.{Polygraph, goodRead, nextOfCabinet, startRead, badRead, successor, chainEdge, edge, rows, inEnds, only, plainOf, plain, between, joined, isSuccessor, isHead, tailWithin, chained, constraints, passes, polygraph}
 use Rattle.model.specs.Search.{firstLegal}
 use Rattle.model.proofs.First.{first-by}
 use Rattle.model.proofs.ReadBacks.{keep-out, out-out}
 
--- what legality, the polygraph and the table look at
+-- what legality, the polygraph and the table look at, the office clock aside
 pub record Alike (g h : History) : Type 0 where
   pub sizes : size g ≡ size h
   pub cabinets : (t : ℕ) → cabinetOf g t ≡ cabinetOf h t
@@ -46,19 +47,16 @@ module _ (g h : History) (a : Alike g h) where
   unfolding goodRead
   goods-same = λ i k t u. reads-same i t k u && (writes-same i u k && not (eqb u t))
 
-  must-same : mustPrecede g ≡ mustPrecede h
-  must-same = λ i u v. ltb u v && eqb (a .cabinets u i) (a .cabinets v i)
-
-  nexts-same : nextOfCabinet g ≡ nextOfCabinet h
+  pub nexts-same : nextOfCabinet g ≡ nextOfCabinet h
   unfolding nextOfCabinet
   nexts-same = λ i u v.
-      must-same i u v && all (λ w. not (ltb u w && (ltb w v && eqb (a .cabinets u i) (a .cabinets w i)))) (upTo (a .sizes i))
+      (ltb u v && eqb (a .cabinets u i) (a .cabinets v i)) && all (λ w. not (ltb u w && (ltb w v && eqb (a .cabinets u i) (a .cabinets w i)))) (upTo (a .sizes i))
 
-  starts-same : startRead g ≡ startRead h
+  pub starts-same : startRead g ≡ startRead h
   unfolding startRead
   starts-same = λ i t v. any (λ k. reads-same i t k start && (writes-same i v k && not (eqb v t))) (upTo 32)
 
-  bads-same : badRead g ≡ badRead h
+  pub bads-same : badRead g ≡ badRead h
   unfolding badRead
   bads-same = λ i t. any (λ r. isRead r && (not (eqb (r .argument) start) && not (goods-same i (r .key) t (r .argument)))) (a .outs t i)
 
@@ -66,21 +64,10 @@ module _ (g h : History) (a : Alike g h) where
   unfolding successor
   successors-same = λ i k u. firstOr (a .sizes i) (λ v. not (eqb v u) && (writes-same i v k && goods-same i k v u)) (upTo (a .sizes i))
 
-  links-same : chainEdge g ≡ chainEdge h
+  pub links-same : chainEdge g ≡ chainEdge h
   unfolding chainEdge
   links-same = λ i t v.
       any (λ k. any (λ u. goods-same i k t u && (eqb (successors-same i k u) v && not (eqb v t))) (upTo (a .sizes i))) (upTo 32)
-
-  pub edges-same : edge g ≡ edge h
-  unfolding edge
-  edges-same = λ i e u v.
-      ltb u (a .sizes i) && (ltb v (a .sizes i)
-      && (nexts-same i u v || (any (λ k. goods-same i k v u) (upTo 32) || (starts-same i u v || ((eqb u v && bads-same i u)
-      || (eqb e 2 && links-same i u v))))))
-
-  pub rows-same : rows g ≡ rows h
-  unfolding rows
-  rows-same = λ i e. map (λ u. wordOf 32 (edges-same i e u)) (upTo 32)
 
   plains-same : plainOf g ≡ plainOf h
   unfolding plainOf
@@ -133,39 +120,61 @@ module _ (g h : History) (a : Alike g h) where
   unfolding constraints
   constraints-same = λ i e. cond (eqb e 0) (plain-same i) (cond (eqb e 1) (joined-same i) (chained-same i))
 
-  -- the same polygraph in every setting
-  pub polygraph-same : polygraph g ≡ polygraph h
-  unfolding polygraph
-  polygraph-same = λ i e pruning.
-      let start : Polygraph = record { known = rows-same i e; choices = constraints-same i e } in
-      let q = passes (length (constraints-same i e)) start in
-      cond (eqb pruning 1) q start
-
   writers-same : (k d : ℕ) (xs : List ℕ) → lastWriter g k d xs ≡ lastWriter h k d xs
   unfolding lastWriter
   writers-same k d [] = refl
   writers-same k d (x ∷ xs) = ap (λ w. lastWriter g k (cond w x d) xs) (λ i. writes-same i x k) ∙ writers-same k (cond (writes h x k) x d) xs
 
-  -- the same legal orders
-  pub legal-same : legal g ≡ legal h
-  unfolding legal keepsCabinets everyReadExplained explained
-  legal-same = λ i o.
-      isOrder (a .sizes i) o
-      && (all (λ u. all (λ v. implies (must-same i u v) (before o u v)) (upTo (a .sizes i))) (upTo (a .sizes i))
-      && all (λ t. all (λ r. implies (isRead r) (eqb (writers-same (r .key) start (upToElement t o) i) (r .argument))) (a .outs t i)) (upTo (a .sizes i)))
-
-  pub first-same : firstLegal g ≡ firstLegal h
-  first-same = first-by g h (a .sizes) legal-same
+  -- the same explained reads
+  pub explained-same : everyReadExplained g ≡ everyReadExplained h
+  unfolding everyReadExplained explained
+  explained-same = λ i o.
+      all (λ t. all (λ r. implies (isRead r) (eqb (writers-same (r .key) start (upToElement t o) i) (r .argument))) (a .outs t i)) (upTo (a .sizes i))
 
   -- the same table
   pub table-same : (table o : List ℕ) → replay g table o ≡ replay h table o
   unfolding replay stored
   table-same table o = λ i. fold (λ tb t. fold (λ tb x. set tb (x .key) (x .argument)) tb (a .stores t i)) table o
 
+-- ---- and with the office clock
+
+module _ (g h : History) (a : Alike g h) (c : endsBefore g ≡ endsBefore h) where
+  edges-same : edge g ≡ edge h
+  unfolding edge
+  edges-same = λ i e u v.
+      ltb u (a .sizes i) && (ltb v (a .sizes i)
+      && ((nexts-same g h a i u v || c i u v) || (any (λ k. goods-same g h a i k v u) (upTo 32) || (starts-same g h a i u v || ((eqb u v && bads-same g h a i u)
+      || (eqb e 2 && links-same g h a i u v))))))
+
+  pub rows-same : rows g ≡ rows h
+  unfolding rows
+  rows-same = λ i e. map (λ u. wordOf 32 (edges-same i e u)) (upTo 32)
+
+  -- the same polygraph in every setting
+  pub polygraph-same : polygraph g ≡ polygraph h
+  unfolding polygraph
+  polygraph-same = λ i e pruning.
+      let start : Polygraph = record { known = rows-same i e; choices = constraints-same g h a i e } in
+      let q = passes (length (constraints-same g h a i e)) start in
+      cond (eqb pruning 1) q start
+
+  must-same : mustPrecede g ≡ mustPrecede h
+  must-same = λ i u v. (ltb u v && eqb (a .cabinets u i) (a .cabinets v i)) || c i u v
+
+  -- the same legal orders
+  pub legal-same : legal g ≡ legal h
+  unfolding legal keepsPrecedence
+  legal-same = λ i o.
+      isOrder (a .sizes i) o
+      && (all (λ u. all (λ v. implies (must-same i u v) (before o u v)) (upTo (a .sizes i))) (upTo (a .sizes i)) && explained-same g h a i o)
+
+  pub first-same : firstLegal g ≡ firstLegal h
+  first-same = first-by g h (a .sizes) legal-same
+
 -- ---- without the read-backs
 
 abbrev bare : Transaction → Transaction
-bare x = record { cabinet = x .cabinet; operations = outward (x .operations) }
+bare x = record { cabinet = x .cabinet; operations = outward (x .operations); begin = x .begin; until = x .until }
 
 bare-at : (h : History) (t : ℕ) → getD (withoutReadBacks h) t noTransaction ≡ bare (getD h t noTransaction)
 unfolding withoutReadBacks outward
@@ -187,3 +196,6 @@ bare-alike h =
       stores = λ t. ap (λ (x : Transaction). keep isWrite (x .operations)) (bare-at h t) ∙ keep-out [] (operationsOf h t);
       outs = λ t. ap (λ (x : Transaction). outward (x .operations)) (bare-at h t) ∙ out-out [] [] (operationsOf h t) (λ k. refl);
     }
+
+pub bare-clock : (h : History) → endsBefore (withoutReadBacks h) ≡ endsBefore h
+bare-clock h = fun-ext (λ u. fun-ext (λ v. rw (ap (λ (x : Transaction). x .until) (bare-at h u), ap (λ (x : Transaction). x .begin) (bare-at h v))))

@@ -9,13 +9,15 @@ use mathlib.Core.List.{List, [], _∷_, _++_, map, append-assoc, append-nil}
 use lib.ListN.{length, getD, take, length-append}
 use lib.Seq.{take-suc, take-length, ext-getD, getD-append-add}
 use Rattle.model.specs.Lists.{each, fold, upTo}
-use Rattle.model.specs.History.{History, Transaction, Operation, size, noTransaction, cabinetOf, operationsOf, operationCount}
+use Rattle.model.specs.History.{History, Transaction, Operation, untimed, size, noTransaction, cabinetOf, operationsOf, operationCount}
 use Rattle.model.specs.Log.{byteAt, pairAt, transactionsIn, operationsIn, cabinetAt, countAt, startAt, countsBefore, bodyAt, kindAt, keyAt, argumentAt, loadNumber, operationAt, transactionAt, historyOf, LaidOut}
+use Rattle.model.specs.Times.{Times, noTimes, timed, withoutTimes}
 use Rattle.model.specs.Writing.{sumOf, headBytes, entryBytes, bodyBytes, countOf, entryOf, allOperations, logOf, transactionFrom, historyFrom}
 use Rattle.model.proofs.Basics.{same?}
 use Rattle.model.proofs.Words.{length-upTo, getD-upTo}
 use Rattle.model.proofs.Loops.{each-snoc, map-snoc}
 use Rattle.model.proofs.Loaded.{loaded, Bytes}
+use Rattle.model.proofs.Times.{timed-size, timed-cabinet, timed-operations, timed-count, timed-all, without-at}
 
 -- ---- sums and lists over the numbers below n
 
@@ -147,7 +149,7 @@ from-same n c c′ k k′ o o′ ec ek eo =
     map-same (λ m. o (sumOf k t + m)) (λ m. o′ (sumOf k′ t + m)) (k t)
     (λ m j. eo (sumOf k t + m) (omega (arith, sum-suc k t, sum-mono k (suc t) n l)) ∙ ap (λ x. o′ (x + m)) s)
     ∙ ap (λ x. map (λ m. o′ (sumOf k′ t + m)) (upTo x)) (ek t l) in
-    ap₂ {C = Transaction} (λ x y. record { cabinet = x; operations = y }) (ec t l) ops)
+    ap₂ {C = Transaction} untimed (ec t l) ops)
 
 -- how many operations there are
 pub count-all : (m : ℕ) (h : History) → fold (λ n (t : Transaction). n + length (t .operations)) m h ≡ m + length (allOperations h)
@@ -257,7 +259,7 @@ pub history-from : (b : List ℕ) → ((t : ℕ) → t < transactionsIn b → st
 unfolding historyOf transactionAt historyFrom
 history-from b s =
     map-same (transactionAt b) (transactionFrom (cabinetAt b) (countAt b) (operationAt b)) (transactionsIn b)
-    (λ t l. ap (λ x. record { cabinet = cabinetAt b t; operations = map (λ m. operationAt b (x + m)) (upTo (countAt b t)) }) (s t l))
+    (λ t l. ap (λ x. untimed (cabinetAt b t) (map (λ m. operationAt b (x + m)) (upTo (countAt b t)))) (s t l))
 
 -- loading the log of tables gives their history
 pub loads-tables : (n : ℕ) (cabinet count : ℕ → ℕ) (operation : ℕ → Operation)
@@ -272,7 +274,16 @@ loads-tables n cabinet count operation =
     ∙ from-same n (cabinetAt b) cabinet (countAt b) count (operationAt b) operation (f .cabinets) (f .counts)
     (λ i l. f .bodies i (omega (arith, same n (omega arith))))
 
--- ---- every history is that of tables
+-- ---- every history is that of tables, but for its times: a log has none
+
+-- times are no part of what is written
+pub log-bare : (ts : Times) (h : History) → logOf (timed ts h) ≡ logOf h
+unfolding logOf
+log-bare ts h = λ i.
+    let n = timed-size ts h i in
+    let k : ℕ → ℕ = λ t. length (timed-operations ts h t i) in
+    headBytes n (timed-count ts h i)
+    ++ (each (λ t. entryBytes (timed-cabinet ts h t i) (k t) (sumOf k t)) (upTo n) ++ each bodyBytes (timed-all ts h i))
 
 abbrev noOperation : Operation
 noOperation = record { kind = 0; key = 0; argument = 0 }
@@ -293,12 +304,12 @@ all-at (x ∷ h) (suc t) m l =
     ∙ getD-append-add (x .operations) (allOperations h) (sumOf (countOf h) t + m) noOperation
     ∙ all-at h t m l
 
-pub every-history : (h : History) → historyFrom (size h) (cabinetOf h) (countOf h) (everyOperation h) ≡ h
+pub every-history : (h : History) → historyFrom (size h) (cabinetOf h) (countOf h) (everyOperation h) ≡ withoutTimes h
 every-history h =
     let o = everyOperation h in
     let f = historyFrom (size h) (cabinetOf h) (countOf h) o in
     let sz = from-size (size h) (cabinetOf h) (countOf h) o in
-    ext-getD noTransaction f h sz
+    ext-getD noTransaction f (withoutTimes h) (sz ∙ sym (timed-size noTimes h))
     (λ t l.
     let lt : t < size h = omega (arith, sz) in
     let ops : map (λ m. o (sumOf (countOf h) t + m)) (upTo (countOf h t)) ≡ operationsOf h t =
@@ -307,14 +318,14 @@ every-history h =
     let lm : m < countOf h t = omega (arith, length-upTo (λ m. o (sumOf (countOf h) t + m)) (countOf h t)) in
     getD-upTo (λ m. o (sumOf (countOf h) t + m)) noOperation (countOf h t) m lm ∙ all-at h t m lm) in
     from-at (size h) (cabinetOf h) (countOf h) o t lt
-    ∙ ap (λ x. record { cabinet = cabinetOf h t; operations = x }) ops)
+    ∙ ap (untimed (cabinetOf h t)) ops ∙ sym (without-at h t lt))
 
--- Loading a written log yields the notes: the history, whatever it is.
-pub loads-back : (h : History) → historyOf (logOf h) ≡ h
+-- Loading a written log yields the notes: the history, whatever it is, without its times.
+pub loads-back : (h : History) → historyOf (logOf h) ≡ withoutTimes h
 loads-back h =
     let o = everyOperation h in
     let e = every-history h in
-    ap (λ x. historyOf (logOf x)) (sym e) ∙ loads-tables (size h) (cabinetOf h) (countOf h) o ∙ e
+    ap historyOf (sym (log-bare noTimes h)) ∙ ap (λ x. historyOf (logOf x)) (sym e) ∙ loads-tables (size h) (cabinetOf h) (countOf h) o ∙ e
 
 -- ---- a loaded log is written as the same bytes
 

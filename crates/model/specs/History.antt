@@ -1,5 +1,5 @@
--- Histories, replay and legal orders: document 01, 'The log' (its rules on operations) and 'Replay and legality', with card 1's read-backs and card 5's
--- starting table. Assumes nothing.
+-- Histories, replay and legal orders: document 01, 'The log' (its rules on operations) and 'Replay and legality', with card 1's read-backs, card 5's
+-- starting table and card 7's times. Assumes nothing.
 use Prim.Native.Nat.{ℕ, _+_}
 use mathlib.Core.Bool.{Bool, true, not, cond, _&&_, _||_}
 use mathlib.Core.List.{List, [], _∷_, map}
@@ -14,10 +14,17 @@ pub record Operation : Type 0 where
   pub key : ℕ
   pub argument : ℕ
 
--- A transaction: the cabinet that sent it, and its operations in body order.
+-- A transaction: the cabinet that sent it, its operations in body order, and its times in seconds on the office clock: its begin, and its end with the drift
+-- added. All numbers are natural ones, so no sum wraps. In a window without times both are 0.
 pub record Transaction : Type 0 where
   pub cabinet : ℕ
   pub operations : List Operation
+  pub begin : ℕ
+  pub until : ℕ
+
+-- one without times
+abbrev pub untimed : ℕ → List Operation → Transaction
+untimed cabinet operations = record { cabinet = cabinet; operations = operations; begin = 0; until = 0 }
 
 -- Transactions are numbered from 0 in contents order: a transaction's number is its place.
 abbrev pub History : Type 0
@@ -32,13 +39,19 @@ abbrev pub size : History → ℕ
 size h = length h
 
 abbrev pub noTransaction : Transaction
-noTransaction = record { cabinet = 0; operations = [] }
+noTransaction = untimed 0 []
 
 abbrev pub cabinetOf : History → ℕ → ℕ
 cabinetOf h t = (getD h t noTransaction) .cabinet
 
 abbrev pub operationsOf : History → ℕ → List Operation
 operationsOf h t = (getD h t noTransaction) .operations
+
+abbrev pub beginOf : History → ℕ → ℕ
+beginOf h t = (getD h t noTransaction) .begin
+
+abbrev pub untilOf : History → ℕ → ℕ
+untilOf h t = (getD h t noTransaction) .until
 
 abbrev pub isRead : Operation → Bool
 isRead o = eqb (o .kind) 0
@@ -65,7 +78,7 @@ outwardOf h t = outward (operationsOf h t)
 
 -- the same history, each transaction without its read-backs
 unfoldable pub withoutReadBacks : History → History
-withoutReadBacks h = map (λ (x : Transaction). record { cabinet = x .cabinet; operations = outward (x .operations) }) h
+withoutReadBacks h = map (λ (x : Transaction). record { cabinet = x .cabinet; operations = outward (x .operations); begin = x .begin; until = x .until }) h
 
 -- ---- what Load lets through
 
@@ -137,18 +150,26 @@ isOrder n o = all (λ x. ltb x n) o && all (λ t. eqb (count t o) 1) (upTo n)
 abbrev pub before : List ℕ → ℕ → ℕ → Bool
 before o u v = ltb (place u o) (place v o)
 
--- What a legal order keeps besides its reads: u before v wherever one cabinet sent both and u comes first in the contents.
-abbrev pub mustPrecede : History → ℕ → ℕ → Bool
-mustPrecede h u v = ltb u v && eqb (cabinetOf h u) (cabinetOf h v)
+-- A cabinet's own order is the contents order of its transactions: one cabinet sent both, and u comes first in the contents.
+abbrev pub sentBefore : History → ℕ → ℕ → Bool
+sentBefore h u v = ltb u v && eqb (cabinetOf h u) (cabinetOf h v)
 
--- A cabinet's own order is the contents order of its transactions.
-unfoldable pub keepsCabinets : History → List ℕ → Bool
-keepsCabinets h o =
+-- By the office clock u ended before v began: u's end with the drift added is less than v's begin. Equal seconds order nothing (in source document 003 they do).
+abbrev pub endsBefore : History → ℕ → ℕ → Bool
+endsBefore h u v = ltb (untilOf h u) (beginOf h v)
+
+-- What a legal order keeps besides its reads: u before v wherever their cabinet sent u first, or u ended before v began.
+abbrev pub mustPrecede : History → ℕ → ℕ → Bool
+mustPrecede h u v = sentBefore h u v || endsBefore h u v
+
+unfoldable pub keepsPrecedence : History → List ℕ → Bool
+keepsPrecedence h o =
     all (λ u. all (λ v. implies (mustPrecede h u v) (before o u v)) (upTo (size h))) (upTo (size h))
 
--- An order is legal when it holds every number below T once and nothing else, keeps each cabinet's own order and has every read explained.
+-- An order is legal when it holds every number below T once and nothing else, keeps each cabinet's own order and that of the office clock, and has every
+-- read explained.
 unfoldable pub legal : History → List ℕ → Bool
-legal h o = isOrder (size h) o && (keepsCabinets h o && everyReadExplained h o)
+legal h o = isOrder (size h) o && (keepsPrecedence h o && everyReadExplained h o)
 
 -- ---- the replay's table
 

@@ -5,8 +5,10 @@ pub mod Keys
 pub mod RowWords
 pub mod Log
 pub mod Refusals
+pub mod Times
 pub mod Window
 pub mod Writing
 pub mod Search
+pub mod Untimed
 pub mod Lent
 pub mod Rows

@@ -1,4 +1,5 @@
--- Known edges, the three encodings, pruning and selections: document 01, 'Known edges' to 'Pruning', with card 1's read-backs left out. Assumes nothing.
+-- Known edges, the three encodings, pruning and selections: document 01, 'Known edges' to 'Pruning', with card 1's read-backs left out and card 7's known
+-- edges by the office clock. Assumes nothing.
 use Prim.Native.Nat.{ℕ, zero, suc, _<_}
 use mathlib.Core.Path.{_≡_}
 use mathlib.Core.Logic.{_⊎_}
@@ -10,7 +11,7 @@ use lib.ListN.{length, getD}
 -- target. Each constraint is a record of these four fields, the struct of src/lib.rt.
 pub use Rattle.model.specs.declared.Constraint.{Constraint}
 use Rattle.model.specs.Lists.{All, all, any, place, keep, firstOr, fold, each, upTo, bit, wordOf}
-use Rattle.model.specs.History.{History, Operation, start, size, cabinetOf, outwardOf, isRead, mustPrecede, writes, reads}
+use Rattle.model.specs.History.{History, Operation, start, size, cabinetOf, outwardOf, isRead, sentBefore, endsBefore, writes, reads}
 
 -- a good read: a read by t that looks at earlier transactions and names u, where u writes the key and u is not t. It gives the known edge u → t.
 unfoldable pub goodRead : History → ℕ → ℕ → ℕ → Bool
@@ -19,7 +20,7 @@ goodRead h k t u = reads h t k u && (writes h u k && not (eqb u t))
 -- v is the next transaction of u's cabinet. There is a known edge from each transaction to the next of the same cabinet.
 unfoldable pub nextOfCabinet : History → ℕ → ℕ → Bool
 nextOfCabinet h u v =
-    mustPrecede h u v
+    sentBefore h u v
     && all (λ w. not (ltb u w && (ltb w v && eqb (cabinetOf h u) (cabinetOf h w)))) (upTo (size h))
 
 -- A read by t of the starting value that looks at earlier transactions gives t → v for every other writer v of the key.
@@ -39,11 +40,12 @@ successor h k u = firstOr (size h) (λ v. not (eqb v u) && (writes h v k && good
 unfoldable pub chainEdge : History → ℕ → ℕ → Bool
 chainEdge h t v = any (λ k. any (λ u. goodRead h k t u && (eqb (successor h k u) v && not (eqb v t))) (upTo (size h))) (upTo 32)
 
--- the known edge u → v in encoding e, which means u before v: the four kinds of every encoding, and the further ones of encoding 2
+-- the known edge u → v in encoding e, which means u before v: the five kinds of every encoding, of which the second is every pair by the office clock,
+-- and the further ones of encoding 2
 unfoldable pub edge : History → ℕ → ℕ → ℕ → Bool
 edge h e u v =
     ltb u (size h) && (ltb v (size h)
-    && (nextOfCabinet h u v || (any (λ k. goodRead h k v u) (upTo 32) || (startRead h u v || ((eqb u v && badRead h u)
+    && ((nextOfCabinet h u v || endsBefore h u v) || (any (λ k. goodRead h k v u) (upTo 32) || (startRead h u v || ((eqb u v && badRead h u)
     || (eqb e 2 && chainEdge h u v))))))
 
 -- The known edges as 32 row words: bit v of word u stands for u → v, and unused bits are 0.

@@ -1,12 +1,13 @@
--- What is wrong with a log that Load refuses with 3, 35, 10 or 34, and where the first body stands that is refused. `proofs/Demands` has the theorems: each of
--- these numbers is given exactly there. Assumes nothing.
+-- What is wrong with a log that Load refuses with 3, 35, 10 or 34, and where the first body stands that is refused; and with times that it refuses with 37 or
+-- 38. `proofs/Demands` has the theorems: each of these numbers is given exactly there. Assumes nothing.
 use Prim.Native.Nat.{ℕ, _+_, _≤_, _<_}
 use mathlib.Core.Path.{_≡_}
 use mathlib.Core.Logic.{_⊎_, _≢_}
 use mathlib.Core.List.{List}
-use lib.ListN.{length}
+use lib.ListN.{length, getD}
 use Rattle.model.specs.History.{start}
-use Rattle.model.specs.Log.{transactionsIn, operationsIn, cabinetAt, countAt, startAt, kindAt, keyAt, argumentAt, backAt, bodyNumber, lengthSaid, LaidOut}
+use Rattle.model.specs.Log.{transactionsIn, operationsIn, cabinetAt, countAt, startAt, kindAt, keyAt, argumentAt, backAt, bodyNumber, lengthSaid, loadNumber, LaidOut}
+use Rattle.model.specs.Times.{Times}
 
 -- ---- the length
 
@@ -57,3 +58,30 @@ pub record SecondWrite (b : List ℕ) (first m : ℕ) : Type 0 where
   pub earlier : one < m
   pub writes-too : kindAt b (first + one) ≡ 1
   pub same-key : keyAt b (first + one) ≡ keyAt b (first + m)
+
+-- ---- times, beside a log that is taken
+
+-- two lists that are both empty, or both of n entries
+abbrev pub Matching : ℕ → Times → Type 0
+Matching n ts = ((length (ts .begins) ≡ 0) × (length (ts .ends) ≡ 0)) ⊎ ((length (ts .begins) ≡ n) × (length (ts .ends) ≡ n))
+
+-- times that are taken beside a log of n transactions
+pub record GoodTimes (n : ℕ) (ts : Times) : Type 0 where
+  pub lengths : Matching n ts
+  pub ordered : (t : ℕ) → t < length (ts .begins) → getD (ts .begins) t 0 ≤ getD (ts .ends) t 0
+  pub short : ts .drift ≤ 3600
+
+-- 37: they are neither
+pub record Mismatched (b : List ℕ) (ts : Times) : Type 0 where
+  pub taken : loadNumber b ≡ 0
+  pub neither : Matching (transactionsIn b) ts → ⊥
+
+-- some transaction that has times begins after its end
+abbrev pub Backward : Times → Type 0
+Backward ts = (t : ℕ) × (t < length (ts .begins)) × (getD (ts .ends) t 0 < getD (ts .begins) t 0)
+
+-- 38: such a one, or a drift over 3,600
+pub record Untimely (b : List ℕ) (ts : Times) : Type 0 where
+  pub taken : loadNumber b ≡ 0
+  pub lists : Matching (transactionsIn b) ts
+  pub why : Backward ts ⊎ (3600 < ts .drift)

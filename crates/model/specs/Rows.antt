@@ -1,5 +1,5 @@
--- Document 01's histories A to J, histories with read-backs and the program's example, as logs, with a log for each number of Load: rows of one list that one theorem
--- covers, by computation. Assumes nothing.
+-- Document 01's histories A to J, histories with read-backs, windows with times and the program's example, as logs, with a window for each number of Load: rows of
+-- one list that one theorem covers, by computation. Assumes nothing.
 use Prim.Native.Nat.{ℕ, _-_}
 use mathlib.Core.Bool.{Bool, true, false, _&&_}
 use mathlib.Core.List.{List, [], _∷_, _++_, map}
@@ -7,10 +7,11 @@ use mathlib.Core.Option.{Option, none, some}
 use lib.Dec.{T, eqb}
 use lib.ListN.{length, getD, replicate}
 use Rattle.model.specs.Lists.{all, bit}
-use Rattle.model.specs.History.{Operation, Transaction, History, start, isReadBack, outward, writes, reads, lastWriter, explained, everyReadExplained, isOrder, keepsCabinets, legal, stored, replay}
+use Rattle.model.specs.History.{Operation, Transaction, History, start, untimed, isReadBack, outward, writes, reads, lastWriter, explained, everyReadExplained, isOrder, keepsPrecedence, legal, stored, replay}
 use Rattle.model.specs.Polygraph.{goodRead, nextOfCabinet, startRead, badRead, successor, chainEdge, edge, rows, Constraint, inEnds, plainOf, plain, between, joined, isSuccessor, isHead, tailWithin, chained, constraints, withSide, through, reach, closedOff, pass, passes, polygraph, has}
 use Rattle.model.specs.Lent.{encodedList}
 use Rattle.model.specs.Log.{pairAt, countsBefore, firstNumber, entryNumber, seen, backAt, seenBack, again, bodyNumber, bodiesNumber, loadNumber, transactionAt, historyOf}
+use Rattle.model.specs.Times.{Times, times, noTimes, untils, withTimes, timed, timedHistory, timesNumber, timedNumber}
 use Rattle.model.specs.Window.{window, windowNumber, zeros}
 use Rattle.model.specs.Search.{arrangements, firstLegal}
 
@@ -22,9 +23,13 @@ abbrev write : ℕ → ℕ → Operation
 write key value = record { kind = 1; key = key; argument = value }
 
 abbrev sent : ℕ → List Operation → Transaction
-sent c os = record { cabinet = c; operations = os }
+sent c os = untimed c os
 
--- What is said of a log: the number that Load gives, the history that it holds, and what document 01 says of that history.
+-- the same with a begin, and an end with the drift added
+abbrev sentAt : ℕ → ℕ → ℕ → List Operation → Transaction
+sentAt c from to os = record { cabinet = c; operations = os; begin = from; until = to }
+
+-- What is said of a window: the number that Load gives, the history that it holds, and what document 01 says of that history.
 pub data Claim : Type 0 where
   number : ℕ → Claim
   holding : History → Claim
@@ -75,7 +80,9 @@ abbrev sameHistory : History → History → Bool
 sameHistory [] [] = true
 sameHistory [] (y ∷ ys) = false
 sameHistory (x ∷ xs) [] = false
-sameHistory (x ∷ xs) (y ∷ ys) = (eqb (x .cabinet) (y .cabinet) && sameOperations (x .operations) (y .operations)) && sameHistory xs ys
+sameHistory (x ∷ xs) (y ∷ ys) =
+    (eqb (x .cabinet) (y .cabinet) && (sameOperations (x .operations) (y .operations) && (eqb (x .begin) (y .begin) && eqb (x .until) (y .until))))
+    && sameHistory xs ys
 
 abbrev fields : Constraint → List ℕ
 fields c = c .fromA ∷ c .toA ∷ c .fromB ∷ c .toB ∷ []
@@ -92,39 +99,50 @@ abbrev sameOrder : Option (List ℕ) → Option (List ℕ) → Bool
 sameOrder none p = isNone p
 sameOrder (some o) p = isOrderFound p o
 
--- b the log, h its history
-pub holds : List ℕ → History → Claim → Bool
-holds b h (number n) = eqb (loadNumber b) n
-holds b h (holding g) = sameHistory h g
-holds b h (final o table) = isOrderFound (firstLegal h) o && same (replay h zeros o) table
+-- b the log, ts the times beside it, h the history of both
+pub holds : List ℕ → Times → History → Claim → Bool
+holds b ts h (number n) = eqb (timedNumber b ts) n
+holds b ts h (holding g) = sameHistory h g
+holds b ts h (final o table) = isOrderFound (firstLegal h) o && same (replay h zeros o) table
 -- the same from another starting table; and the number that Load gives beside one
-holds b h (final-from s o table) = isOrderFound (firstLegal h) o && same (replay h s o) table
-holds b h (number-from s n) = eqb (windowNumber (window b s)) n
-holds b h (order o) = isOrderFound (firstLegal h) o
-holds b h no-order = isNone (firstLegal h)
-holds b h (counts x y z) =
+holds b ts h (final-from s o table) = isOrderFound (firstLegal h) o && same (replay h s o) table
+holds b ts h (number-from s n) = eqb (windowNumber (window b s ts)) n
+holds b ts h (order o) = isOrderFound (firstLegal h) o
+holds b ts h no-order = isNone (firstLegal h)
+holds b ts h (counts x y z) =
     eqb (length (constraints h 0)) x && (eqb (length (constraints h 1)) y && eqb (length (constraints h 2)) z)
-holds b h (left e p n) = eqb (length (polygraph h e p .choices)) n
-holds b h (joined-are cs) = sameLists (map fields (joined h)) cs
-holds b h (has-edge e u v) = edge h e u v
-holds b h (pruned-has-edge e u v) = has (polygraph h e 1 .known) u v
-holds b h (leaves e p lent list) = sameLists (map fields (encodedList h e p (map constraintOf lent))) list
+holds b ts h (left e p n) = eqb (length (polygraph h e p .choices)) n
+holds b ts h (joined-are cs) = sameLists (map fields (joined h)) cs
+holds b ts h (has-edge e u v) = edge h e u v
+holds b ts h (pruned-has-edge e u v) = has (polygraph h e 1 .known) u v
+holds b ts h (leaves e p lent list) = sameLists (map fields (encodedList h e p (map constraintOf lent))) list
 -- the first words; those behind them are 0
-holds b h (edges-are e ws) = same (rows h e) (ws ++ replicate (32 - length ws) 0)
--- the same first legal order, and the same polygraph in all six settings, as another log
-holds b h (judged-as c) =
+holds b ts h (edges-are e ws) = same (rows h e) (ws ++ replicate (32 - length ws) 0)
+-- the same first legal order, and the same polygraph in all six settings, as another log without times
+holds b ts h (judged-as c) =
     sameOrder (firstLegal h) (firstLegal (historyOf c))
     && all (λ e. samePolygraph h (historyOf c) e 0 && samePolygraph h (historyOf c) e 1) (0 ∷ 1 ∷ 2 ∷ [])
 
--- a log and what is said of it
+-- a log with times, and what is said of it
 pub record Row : Type 0 where
   pub log : List ℕ
+  pub clock : Times
   pub claims : List Claim
 
+-- without times, and with begins, ends and a drift
 abbrev row : List ℕ → List Claim → Row
-row b cs = record { log = b; claims = cs }
+row b cs = record { log = b; clock = noTimes; claims = cs }
 
--- The logs of E and F, which others are held against.
+abbrev at : List ℕ → (begins ends : List ℕ) → ℕ → List Claim → Row
+at b begins ends drift cs = record { log = b; clock = times begins ends drift; claims = cs }
+
+-- The logs of C and J, which are given times, and of C, E and F, which others are held against.
+abbrev logC : List ℕ
+logC = 0x02 ∷ 0x00 ∷ 0x02 ∷ 0x00 ∷ 0x00 ∷ 0x01 ∷ 0x00 ∷ 0x00 ∷ 0x01 ∷ 0x01 ∷ 0x01 ∷ 0x00 ∷ 0x01 ∷ 0x00 ∷ 0x07 ∷ 0x00 ∷ 0x01 ∷ 0x00 ∷ 0x07 ∷ 0x00 ∷ []
+
+abbrev logJ : List ℕ
+logJ = 0x02 ∷ 0x00 ∷ 0x02 ∷ 0x00 ∷ 0x00 ∷ 0x01 ∷ 0x00 ∷ 0x00 ∷ 0x01 ∷ 0x01 ∷ 0x01 ∷ 0x00 ∷ 0x01 ∷ 0x00 ∷ 0x07 ∷ 0x00 ∷ 0x00 ∷ 0x00 ∷ 0xff ∷ 0xff ∷ []
+
 abbrev logE : List ℕ
 logE =
     0x04 ∷ 0x00 ∷ 0x06 ∷ 0x00 ∷ 0x00 ∷ 0x01 ∷ 0x00 ∷ 0x00 ∷ 0x01 ∷ 0x02 ∷ 0x01 ∷ 0x00 ∷ 0x02 ∷ 0x01 ∷ 0x03 ∷ 0x00 ∷ 0x03 ∷ 0x02 ∷ 0x04 ∷ 0x00 ∷ 0x01 ∷ 0x00 ∷ 0x07 ∷ 0x00 ∷ 0x00 ∷ 0x00 ∷ 0x00 ∷ 0x00 ∷ 0x01 ∷ 0x00 ∷ 0x07 ∷ 0x00 ∷ 0x01 ∷ 0x00 ∷ 0x07 ∷ 0x00 ∷ 0x00 ∷ 0x00 ∷ 0x02 ∷ 0x00 ∷ 0x01 ∷ 0x00 ∷ 0x07 ∷ 0x00 ∷ []
@@ -142,7 +160,7 @@ table =
     ∷ row (0x02 ∷ 0x00 ∷ 0x04 ∷ 0x00 ∷ 0x00 ∷ 0x02 ∷ 0x00 ∷ 0x00 ∷ 0x01 ∷ 0x02 ∷ 0x02 ∷ 0x00 ∷ 0x00 ∷ 0x00 ∷ 0xff ∷ 0xff ∷ 0x01 ∷ 0x01 ∷ 0x07 ∷ 0x00 ∷ 0x00 ∷ 0x01 ∷ 0xff ∷ 0xff ∷ 0x01 ∷ 0x00 ∷ 0x07 ∷ 0x00 ∷ [])
     (number 0 ∷ holding (sent 0 (read 0 start ∷ write 1 7 ∷ []) ∷ sent 1 (read 1 start ∷ write 0 7 ∷ []) ∷ []) ∷ no-order ∷ [])
     -- C. 0 and 1 write k: order 0 1; constraints 0, 1, 1
-    ∷ row (0x02 ∷ 0x00 ∷ 0x02 ∷ 0x00 ∷ 0x00 ∷ 0x01 ∷ 0x00 ∷ 0x00 ∷ 0x01 ∷ 0x01 ∷ 0x01 ∷ 0x00 ∷ 0x01 ∷ 0x00 ∷ 0x07 ∷ 0x00 ∷ 0x01 ∷ 0x00 ∷ 0x07 ∷ 0x00 ∷ [])
+    ∷ row logC
     (number 0 ∷ holding (sent 0 (write 0 7 ∷ []) ∷ sent 1 (write 0 7 ∷ []) ∷ []) ∷ order (0 ∷ 1 ∷ []) ∷ counts 0 1 1 ∷ [])
     -- D. 0 and 1 write k; 2 and 3 read k from 0; 4 from 1: order 0 2 3 1 4; constraints 3, 1, 1; joined A is {2, 3} to 1, B is {4} to 0
     ∷ row (0x05 ∷ 0x00 ∷ 0x05 ∷ 0x00 ∷ 0x00 ∷ 0x01 ∷ 0x00 ∷ 0x00 ∷ 0x01 ∷ 0x01 ∷ 0x01 ∷ 0x00 ∷ 0x02 ∷ 0x01 ∷ 0x02 ∷ 0x00 ∷ 0x03 ∷ 0x01 ∷ 0x03 ∷ 0x00 ∷ 0x04 ∷ 0x01 ∷ 0x04 ∷ 0x00 ∷ 0x01 ∷ 0x00 ∷ 0x07 ∷ 0x00 ∷ 0x01 ∷ 0x00 ∷ 0x07 ∷ 0x00 ∷ 0x00 ∷ 0x00 ∷ 0x00 ∷ 0x00 ∷ 0x00 ∷ 0x00 ∷ 0x00 ∷ 0x00 ∷ 0x00 ∷ 0x00 ∷ 0x01 ∷ 0x00 ∷ [])
@@ -172,7 +190,7 @@ table =
     ∷ joined-are ((0b100 ∷ 1 ∷ 0b010 ∷ 0 ∷ []) ∷ (0b010 ∷ 2 ∷ 0b100 ∷ 0 ∷ []) ∷ (0b010 ∷ 2 ∷ 0b100 ∷ 1 ∷ []) ∷ [])
     ∷ pruned-has-edge 1 2 1 ∷ pruned-has-edge 1 2 0 ∷ [])
     -- J. 0 writes k; 1 reads k at start: order 1 0; the read gives 1→0
-    ∷ row (0x02 ∷ 0x00 ∷ 0x02 ∷ 0x00 ∷ 0x00 ∷ 0x01 ∷ 0x00 ∷ 0x00 ∷ 0x01 ∷ 0x01 ∷ 0x01 ∷ 0x00 ∷ 0x01 ∷ 0x00 ∷ 0x07 ∷ 0x00 ∷ 0x00 ∷ 0x00 ∷ 0xff ∷ 0xff ∷ [])
+    ∷ row logJ
     (number 0 ∷ holding (sent 0 (write 0 7 ∷ []) ∷ sent 1 (read 0 start ∷ []) ∷ []) ∷ order (1 ∷ 0 ∷ []) ∷ final-from (replicate 32 65535) (1 ∷ 0 ∷ []) (7 ∷ replicate 31 65535) ∷ has-edge 0 1 0 ∷ [])
     -- a read-back: 0 writes k and reads it back: order 0, no edge, no constraint
     ∷ row (0x01 ∷ 0x00 ∷ 0x02 ∷ 0x00 ∷ 0x00 ∷ 0x02 ∷ 0x00 ∷ 0x00 ∷ 0x01 ∷ 0x00 ∷ 0x07 ∷ 0x00 ∷ 0x00 ∷ 0x00 ∷ 0x00 ∷ 0x00 ∷ [])
@@ -189,6 +207,58 @@ table =
     -- behind an empty transaction, 1 reads the last key at start, writes it, writes m, and reads both back: order 0 1, no edge, no constraint
     ∷ row (0x02 ∷ 0x00 ∷ 0x05 ∷ 0x00 ∷ 0x00 ∷ 0x00 ∷ 0x00 ∷ 0x00 ∷ 0x0f ∷ 0x05 ∷ 0x00 ∷ 0x00 ∷ 0x00 ∷ 0x1f ∷ 0xff ∷ 0xff ∷ 0x01 ∷ 0x1f ∷ 0x07 ∷ 0x00 ∷ 0x01 ∷ 0x01 ∷ 0x08 ∷ 0x00 ∷ 0x00 ∷ 0x1f ∷ 0x01 ∷ 0x00 ∷ 0x00 ∷ 0x01 ∷ 0x01 ∷ 0x00 ∷ [])
     (number 0 ∷ holding (sent 0 [] ∷ sent 15 (read 31 start ∷ write 31 7 ∷ write 1 8 ∷ read 31 1 ∷ read 1 1 ∷ []) ∷ []) ∷ final (0 ∷ 1 ∷ []) (0 ∷ 8 ∷ (replicate 29 0 ++ (7 ∷ []))) ∷ edges-are 0 [] ∷ edges-are 1 [] ∷ edges-are 2 [] ∷ counts 0 0 0 ∷ [])
+    -- C where 1 ended before 0 began: order 1 0, and 1→0 in every encoding
+    ∷ at logC (10 ∷ 0 ∷ []) (20 ∷ 5 ∷ []) 0
+    (number 0 ∷ holding (sentAt 0 10 20 (write 0 7 ∷ []) ∷ sentAt 1 0 5 (write 0 7 ∷ []) ∷ []) ∷ order (1 ∷ 0 ∷ []) ∷ edges-are 0 (0 ∷ 1 ∷ []) ∷ edges-are 1 (0 ∷ 1 ∷ []) ∷ edges-are 2 (0 ∷ 1 ∷ []) ∷ counts 0 1 1 ∷ left 1 1 0 ∷ left 2 1 0 ∷ [])
+    -- C where 1 ended in the second in which 0 began: equal seconds order nothing
+    ∷ at logC (5 ∷ 0 ∷ []) (9 ∷ 5 ∷ []) 0
+    (number 0 ∷ order (0 ∷ 1 ∷ []) ∷ edges-are 0 [] ∷ edges-are 1 [] ∷ edges-are 2 [] ∷ counts 0 1 1 ∷ left 1 1 1 ∷ [])
+    -- C where both began and ended in one second
+    ∷ at logC (5 ∷ 5 ∷ []) (5 ∷ 5 ∷ []) 0
+    (number 0 ∷ order (0 ∷ 1 ∷ []) ∷ edges-are 0 [] ∷ edges-are 1 [] ∷ edges-are 2 [] ∷ [])
+    -- C where 1 began and ended in the second before
+    ∷ at logC (5 ∷ 4 ∷ []) (5 ∷ 4 ∷ []) 0
+    (number 0 ∷ order (1 ∷ 0 ∷ []) ∷ edges-are 0 (0 ∷ 1 ∷ []) ∷ edges-are 1 (0 ∷ 1 ∷ []) ∷ edges-are 2 (0 ∷ 1 ∷ []) ∷ [])
+    -- C where 0 ended before 1 began: 0 1 is the only legal order
+    ∷ at logC (0 ∷ 6 ∷ []) (5 ∷ 9 ∷ []) 0
+    (number 0 ∷ order (0 ∷ 1 ∷ []) ∷ edges-are 0 (2 ∷ []) ∷ edges-are 1 (2 ∷ []) ∷ edges-are 2 (2 ∷ []) ∷ left 2 1 0 ∷ [])
+    -- J where 0 ended before 1 began, against 1's read: no order
+    ∷ at logJ (0 ∷ 10 ∷ []) (5 ∷ 20 ∷ []) 0
+    (number 0 ∷ no-order ∷ has-edge 0 1 0 ∷ has-edge 0 0 1 ∷ has-edge 1 0 1 ∷ has-edge 2 0 1 ∷ [])
+    -- C where 1 ended 5 seconds before 0 began: a drift of 4 leaves the edge ..
+    ∷ at logC (10 ∷ 0 ∷ []) (20 ∷ 5 ∷ []) 4
+    (number 0 ∷ holding (sentAt 0 10 24 (write 0 7 ∷ []) ∷ sentAt 1 0 9 (write 0 7 ∷ []) ∷ []) ∷ order (1 ∷ 0 ∷ []) ∷ edges-are 0 (0 ∷ 1 ∷ []) ∷ edges-are 1 (0 ∷ 1 ∷ []) ∷ edges-are 2 (0 ∷ 1 ∷ []) ∷ [])
+    -- .. and one of 5 takes it away
+    ∷ at logC (10 ∷ 0 ∷ []) (20 ∷ 5 ∷ []) 5
+    (number 0 ∷ order (0 ∷ 1 ∷ []) ∷ edges-are 0 [] ∷ edges-are 1 [] ∷ edges-are 2 [] ∷ [])
+    -- J with those times and the longest drift: the clock orders nothing
+    ∷ at logJ (0 ∷ 10 ∷ []) (5 ∷ 20 ∷ []) 3600
+    (number 0 ∷ order (1 ∷ 0 ∷ []) ∷ has-edge 0 1 0 ∷ edges-are 2 (0 ∷ 1 ∷ []) ∷ [])
+    -- the last second but one of the clock is before the last ..
+    ∷ at logC (4294967295 ∷ 0 ∷ []) (4294967295 ∷ 4294967294 ∷ []) 0
+    (number 0 ∷ order (1 ∷ 0 ∷ []) ∷ edges-are 0 (0 ∷ 1 ∷ []) ∷ edges-are 1 (0 ∷ 1 ∷ []) ∷ edges-are 2 (0 ∷ 1 ∷ []) ∷ [])
+    -- .. and with a drift of 1 it is not: the sum is not less
+    ∷ at logC (4294967295 ∷ 0 ∷ []) (4294967295 ∷ 4294967294 ∷ []) 1
+    (number 0 ∷ order (0 ∷ 1 ∷ []) ∷ edges-are 0 [] ∷ edges-are 1 [] ∷ edges-are 2 [] ∷ [])
+    -- the sum does not wrap: 4,294,967,295 plus 3,600 is more than any begin, and so is 4,294,967,295 plus 1
+    ∷ at logC (4294967295 ∷ 0 ∷ []) (4294967295 ∷ 4294967295 ∷ []) 3600
+    (number 0 ∷ holding (sentAt 0 4294967295 4294970895 (write 0 7 ∷ []) ∷ sentAt 1 0 4294970895 (write 0 7 ∷ []) ∷ []) ∷ order (0 ∷ 1 ∷ []) ∷ edges-are 0 [] ∷ edges-are 1 [] ∷ edges-are 2 [] ∷ [])
+    ∷ at logC (3600 ∷ 0 ∷ []) (3600 ∷ 4294967295 ∷ []) 1
+    (number 0 ∷ order (0 ∷ 1 ∷ []) ∷ edges-are 0 [] ∷ edges-are 1 [] ∷ edges-are 2 [] ∷ [])
+    -- 0 writes 5 to k and 1 writes 9: by the clock 1 came first, and k ends at 5; without times at 9
+    ∷ at (0x02 ∷ 0x00 ∷ 0x02 ∷ 0x00 ∷ 0x00 ∷ 0x01 ∷ 0x00 ∷ 0x00 ∷ 0x01 ∷ 0x01 ∷ 0x01 ∷ 0x00 ∷ 0x01 ∷ 0x00 ∷ 0x05 ∷ 0x00 ∷ 0x01 ∷ 0x00 ∷ 0x09 ∷ 0x00 ∷ []) (10 ∷ 0 ∷ []) (20 ∷ 5 ∷ []) 0
+    (final (1 ∷ 0 ∷ []) (5 ∷ replicate 31 0) ∷ final-from (replicate 32 7) (1 ∷ 0 ∷ []) (5 ∷ replicate 31 7) ∷ [])
+    ∷ at (0x02 ∷ 0x00 ∷ 0x02 ∷ 0x00 ∷ 0x00 ∷ 0x01 ∷ 0x00 ∷ 0x00 ∷ 0x01 ∷ 0x01 ∷ 0x01 ∷ 0x00 ∷ 0x01 ∷ 0x00 ∷ 0x05 ∷ 0x00 ∷ 0x01 ∷ 0x00 ∷ 0x09 ∷ 0x00 ∷ []) [] [] 3600
+    (final (0 ∷ 1 ∷ []) (9 ∷ replicate 31 0) ∷ [])
+    -- three transactions one after another: an edge for each pair, not only for neighbours
+    ∷ at (0x03 ∷ 0x00 ∷ 0x00 ∷ 0x00 ∷ 0x00 ∷ 0x00 ∷ 0x00 ∷ 0x00 ∷ 0x01 ∷ 0x00 ∷ 0x00 ∷ 0x00 ∷ 0x02 ∷ 0x00 ∷ 0x00 ∷ 0x00 ∷ []) (1 ∷ 3 ∷ 5 ∷ []) (2 ∷ 4 ∷ 6 ∷ []) 0
+    (number 0 ∷ order (0 ∷ 1 ∷ 2 ∷ []) ∷ edges-are 0 (0b110 ∷ 0b100 ∷ []) ∷ edges-are 1 (0b110 ∷ 0b100 ∷ []) ∷ edges-are 2 (0b110 ∷ 0b100 ∷ []) ∷ [])
+    -- the same backwards
+    ∷ at (0x03 ∷ 0x00 ∷ 0x00 ∷ 0x00 ∷ 0x00 ∷ 0x00 ∷ 0x00 ∷ 0x00 ∷ 0x01 ∷ 0x00 ∷ 0x00 ∷ 0x00 ∷ 0x02 ∷ 0x00 ∷ 0x00 ∷ 0x00 ∷ []) (5 ∷ 3 ∷ 1 ∷ []) (6 ∷ 4 ∷ 2 ∷ []) 0
+    (number 0 ∷ order (2 ∷ 1 ∷ 0 ∷ []) ∷ edges-are 0 (0 ∷ 0b001 ∷ 0b011 ∷ []) ∷ edges-are 1 (0 ∷ 0b001 ∷ 0b011 ∷ []) ∷ edges-are 2 (0 ∷ 0b001 ∷ 0b011 ∷ []) ∷ [])
+    -- a cabinet's own order against the clock: no order
+    ∷ at (0x02 ∷ 0x00 ∷ 0x00 ∷ 0x00 ∷ 0x00 ∷ 0x00 ∷ 0x00 ∷ 0x00 ∷ 0x00 ∷ 0x00 ∷ 0x00 ∷ 0x00 ∷ []) (5 ∷ 0 ∷ []) (6 ∷ 1 ∷ []) 0
+    (number 0 ∷ no-order ∷ edges-are 0 (0b10 ∷ 0b01 ∷ []) ∷ edges-are 1 (0b10 ∷ 0b01 ∷ []) ∷ edges-are 2 (0b10 ∷ 0b01 ∷ []) ∷ [])
     -- the program's example with 0's operations exchanged: a read behind a write of another key looks at earlier transactions
     ∷ row (0x02 ∷ 0x00 ∷ 0x03 ∷ 0x00 ∷ 0x00 ∷ 0x02 ∷ 0x00 ∷ 0x00 ∷ 0x01 ∷ 0x01 ∷ 0x02 ∷ 0x00 ∷ 0x01 ∷ 0x01 ∷ 0x07 ∷ 0x00 ∷ 0x00 ∷ 0x00 ∷ 0x01 ∷ 0x00 ∷ 0x01 ∷ 0x00 ∷ 0x05 ∷ 0x00 ∷ [])
     (number 0 ∷ holding (sent 0 (write 1 7 ∷ read 0 1 ∷ []) ∷ sent 1 (write 0 5 ∷ []) ∷ []) ∷ final (1 ∷ 0 ∷ []) (5 ∷ 7 ∷ replicate 30 0) ∷ [])
@@ -308,8 +378,40 @@ table =
     ∷ row (0x01 ∷ 0x00 ∷ 0x03 ∷ 0x00 ∷ 0x00 ∷ 0x03 ∷ 0x00 ∷ 0x00 ∷ 0x00 ∷ 0x00 ∷ 0xff ∷ 0xff ∷ 0x01 ∷ 0x00 ∷ 0x07 ∷ 0x00 ∷ 0x00 ∷ 0x00 ∷ 0xff ∷ 0xff ∷ []) (number 11 ∷ [])
     -- a read-back that names another transaction: refused
     ∷ row (0x02 ∷ 0x00 ∷ 0x03 ∷ 0x00 ∷ 0x00 ∷ 0x02 ∷ 0x00 ∷ 0x00 ∷ 0x01 ∷ 0x01 ∷ 0x02 ∷ 0x00 ∷ 0x01 ∷ 0x00 ∷ 0x07 ∷ 0x00 ∷ 0x00 ∷ 0x00 ∷ 0x01 ∷ 0x00 ∷ 0x01 ∷ 0x00 ∷ 0x07 ∷ 0x00 ∷ []) (number 11 ∷ [])
+    -- C with begins and no ends, and with ends and no begins: refused
+    ∷ at logC (1 ∷ 1 ∷ []) [] 0 (number 37 ∷ number-from (replicate 31 7) 36 ∷ [])
+    ∷ at logC [] (1 ∷ 1 ∷ []) 0 (number 37 ∷ [])
+    -- one entry of two, and three, in each list, and in one of them: refused
+    ∷ at logC (1 ∷ []) (1 ∷ []) 0 (number 37 ∷ [])
+    ∷ at logC (1 ∷ 1 ∷ 1 ∷ []) (1 ∷ 1 ∷ 1 ∷ []) 0 (number 37 ∷ [])
+    ∷ at logC (1 ∷ 1 ∷ []) (1 ∷ []) 0 (number 37 ∷ [])
+    ∷ at logC (1 ∷ 1 ∷ []) (1 ∷ 1 ∷ 1 ∷ []) 0 (number 37 ∷ [])
+    -- one entry where there is no transaction: refused
+    ∷ at (0x00 ∷ 0x00 ∷ 0x00 ∷ 0x00 ∷ []) (1 ∷ []) (1 ∷ []) 0 (number 37 ∷ [])
+    -- one entry of two, begun after its end, with a drift of 3,601: 37 stands before 38: refused
+    ∷ at logC (2 ∷ []) (1 ∷ []) 3601 (number 37 ∷ [])
+    -- a begin after its end, in the first and in the last: refused
+    ∷ at logC (2 ∷ 1 ∷ []) (1 ∷ 1 ∷ []) 0 (number 38 ∷ number-from (replicate 33 7) 36 ∷ [])
+    ∷ at logC (1 ∷ 2 ∷ []) (1 ∷ 1 ∷ []) 0 (number 38 ∷ [])
+    -- the same by less than the drift: refused
+    ∷ at logC (1 ∷ 2 ∷ []) (1 ∷ 1 ∷ []) 3600 (number 38 ∷ [])
+    -- a drift of 3,601, with times and without: refused
+    ∷ at logC (1 ∷ 1 ∷ []) (1 ∷ 1 ∷ []) 3601 (number 38 ∷ [])
+    ∷ at logC [] [] 3601 (number 38 ∷ [])
+    -- a drift of 3,600, with times and without: taken
+    ∷ at logC (1 ∷ 1 ∷ []) (1 ∷ 1 ∷ []) 3600 (number 0 ∷ [])
+    ∷ at logC [] [] 3600 (number 0 ∷ judged-as logC ∷ number-from (replicate 31 7) 36 ∷ [])
+    -- both ends of the clock, begins that are their ends: taken
+    ∷ at logC (0 ∷ 4294967295 ∷ []) (0 ∷ 4294967295 ∷ []) 0 (number 0 ∷ order (0 ∷ 1 ∷ []) ∷ edges-are 0 (2 ∷ []) ∷ [])
+    -- no transaction and no times: taken
+    ∷ at (0x00 ∷ 0x00 ∷ 0x00 ∷ 0x00 ∷ []) [] [] 0 (number 0 ∷ [])
+    -- the same with a drift of 3,601: refused
+    ∷ at (0x00 ∷ 0x00 ∷ 0x00 ∷ 0x00 ∷ []) [] [] 3601 (number 38 ∷ [])
+    -- three bytes, and a read-back that names the start, with times that would be refused: the log's number comes first
+    ∷ at (0x00 ∷ 0x00 ∷ 0x00 ∷ []) (1 ∷ []) [] 3601 (number 1 ∷ [])
+    ∷ at (0x01 ∷ 0x00 ∷ 0x02 ∷ 0x00 ∷ 0x00 ∷ 0x02 ∷ 0x00 ∷ 0x00 ∷ 0x01 ∷ 0x00 ∷ 0x07 ∷ 0x00 ∷ 0x00 ∷ 0x00 ∷ 0xff ∷ 0xff ∷ []) (1 ∷ []) [] 3601 (number 11 ∷ [])
     ∷ []
 
-pub histories-A-to-J : T (all (λ (r : Row). all (holds (r .log) (historyOf (r .log))) (r .claims)) table)
-unfolding bit isReadBack outward writes reads lastWriter explained everyReadExplained isOrder keepsCabinets legal stored replay goodRead nextOfCabinet startRead badRead successor chainEdge edge rows inEnds plainOf plain between joined isSuccessor isHead tailWithin chained constraints withSide through reach closedOff pass passes polygraph arrangements firstLegal pairAt countsBefore firstNumber entryNumber seen backAt seenBack again bodyNumber bodiesNumber loadNumber transactionAt historyOf windowNumber encodedList holds
+pub histories-A-to-J : T (all (λ (r : Row). all (holds (r .log) (r .clock) (timedHistory (r .log) (r .clock))) (r .claims)) table)
+unfolding bit isReadBack outward writes reads lastWriter explained everyReadExplained isOrder keepsPrecedence legal stored replay goodRead nextOfCabinet startRead badRead successor chainEdge edge rows inEnds plainOf plain between joined isSuccessor isHead tailWithin chained constraints withSide through reach closedOff pass passes polygraph arrangements firstLegal pairAt countsBefore firstNumber entryNumber seen backAt seenBack again bodyNumber bodiesNumber loadNumber transactionAt historyOf untils withTimes timed timesNumber timedNumber windowNumber encodedList holds
 histories-A-to-J = tt

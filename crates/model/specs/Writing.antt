@@ -5,7 +5,7 @@ use mathlib.Core.List.{List, [], _∷_, _++_, map}
 use lib.Dec.{eqb, ltb}
 use lib.ListN.{length}
 use Rattle.model.specs.Lists.{all, each, upTo}
-use Rattle.model.specs.History.{History, Transaction, Operation, size, cabinetOf, operationsOf, operationCount}
+use Rattle.model.specs.History.{History, Transaction, Operation, untimed, size, cabinetOf, operationsOf, operationCount}
 use Rattle.model.specs.Log.{loadNumber}
 
 -- the sum of f 0, f 1, ... f (n - 1)
@@ -53,7 +53,7 @@ hasLog h = isLog (logOf h)
 -- Flat tables hold a history: the cabinet and the count of each transaction, and the operations of all, one after another. Transaction t of them:
 abbrev pub transactionFrom : (ℕ → ℕ) → (ℕ → ℕ) → (ℕ → Operation) → ℕ → Transaction
 transactionFrom cabinet count operation t =
-    record { cabinet = cabinet t; operations = map (λ m. operation (sumOf count t + m)) (upTo (count t)) }
+    untimed (cabinet t) (map (λ m. operation (sumOf count t + m)) (upTo (count t)))
 
 -- the first n transactions
 unfoldable pub historyFrom : ℕ → (ℕ → ℕ) → (ℕ → ℕ) → (ℕ → Operation) → History

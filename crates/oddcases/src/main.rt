@@ -1,9 +1,10 @@
 // Cases put together outside the calls, of each odd kind: what Load of a good log, Check, Order and Table say of each. 100 stands for a legal order.
 // The log is document 01's example, whose order is 1 0. The cases start from levels that are not zeros; then from tables of other kinds, which change how
-// none of them counts.
+// none of them counts. They have no times; the module `times` has those that do.
 use checker::Case;
 use checker::Stage;
 use samples::check_number;
+use samples::clocks::none;
 use samples::lines::byte;
 use samples::lines::end;
 use samples::lines::number;
@@ -18,6 +19,8 @@ use samples::tables::levels;
 use samples::tables::same;
 use samples::with_byte;
 
+mod times;
+
 // The case that holds the example.
 fn example() -> Case {
     loaded(
@@ -26,7 +29,8 @@ fn example() -> Case {
 }
 
 // The example's case with another stage, length and order: two numbers and the rest.
-fn made(stage: Stage, length: usize, first: u8, second: u8, rest: u8) -> Case {
+pub(crate) fn made(stage: Stage, length: usize, first: u8, second: u8, rest: u8) -> Case {
+    let clock = none();
     let c = example();
     let bytes = c.bytes;
     let mut order = [rest; 32];
@@ -37,12 +41,14 @@ fn made(stage: Stage, length: usize, first: u8, second: u8, rest: u8) -> Case {
         bytes,
         length,
         starting: levels(),
+        clock,
         order,
     }
 }
 
 // The same with another byte at a place.
 fn damaged(stage: Stage, i: usize, x: u8) -> Case {
+    let clock = none();
     let c = example();
     let whole = c.bytes;
     let bytes = with_byte(whole, i, x);
@@ -51,12 +57,14 @@ fn damaged(stage: Stage, i: usize, x: u8) -> Case {
         bytes,
         length: 24,
         starting: levels(),
+        clock,
         order: [0; 32],
     }
 }
 
 // The case of one transaction that writes key 0 twice.
 fn twice(stage: Stage) -> Case {
+    let clock = none();
     let c = example();
     let whole = c.bytes;
     let one = with_byte(with_byte(whole, 0, 1), 2, 2);
@@ -67,6 +75,7 @@ fn twice(stage: Stage) -> Case {
         bytes,
         length: 16,
         starting: levels(),
+        clock,
         order: [0; 32],
     }
 }
@@ -96,7 +105,7 @@ fn table_line(c: Case) {
 }
 
 // A line of a case: load; check of 1 0; order, its two places, case as it was; table, its first two values, case as it was.
-fn show(name: &[u8], c: Case) {
+pub(crate) fn show(name: &[u8], c: Case) {
     text(name);
     number(load_number(c, b"\x00\x00\x00\x00"));
     number(check_number(c, b"\x01\x00"));
@@ -259,6 +268,7 @@ fn counts() {
 
 // A case that says that a log has an order.
 fn ordered(log: &[u8], first: u8, second: u8) -> Case {
+    let clock = none();
     let c = loaded(log);
     let bytes = c.bytes;
     let length = c.length;
@@ -270,6 +280,7 @@ fn ordered(log: &[u8], first: u8, second: u8) -> Case {
         bytes,
         length,
         starting: [0; 32],
+        clock,
         order,
     }
 }
@@ -329,4 +340,5 @@ fn main() {
     yes_no(same_case(damaged(Stage::Ordered, 12, 2).clear(), Case::fresh()));
     yes_no(same_case(made(Stage::NoOrder, 1157, 1, 2, 3).clear(), Case::fresh()));
     end();
+    times::show_all();
 }

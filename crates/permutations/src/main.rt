@@ -1,13 +1,24 @@
 // Check on every list of four numbers, against a direct replay, over many small histories of four transactions with three operations each, read-backs
-// among them. For each list the log is loaded beside another random starting table, of which the direct replay knows nothing.
+// among them: first without times; then with times; then with times where all operations are writes, so that only the cabinets and the clock have a say.
+// For each list the log is loaded beside another random starting table, of which the direct replay knows nothing.
+use checker::Clock;
 use samples::at;
 use samples::check_number;
+use samples::clocks::loaded_by;
+use samples::clocks::none;
 use samples::lines::end;
 use samples::lines::number;
 use samples::lines::text;
-use samples::loaded_from;
 use samples::tables::drawn;
 use std::num::wrapping_add_u64;
+
+mod times;
+
+// What sets the rounds apart: whether the windows have times, and whether all operations are writes.
+pub struct Round {
+    pub timed: bool,
+    pub blind: bool,
+}
 
 // ---- histories
 
@@ -18,7 +29,7 @@ fn mixed(x: u64) -> u64 {
     b ^ (b << 17)
 }
 
-fn chance(h: u64, k: u64) -> u64 {
+pub(crate) fn chance(h: u64, k: u64) -> u64 {
     mixed(mixed(mixed(wrapping_add_u64(h << 8, k) ^ 88172645463325252)))
 }
 
@@ -107,8 +118,20 @@ fn third_op(h: u64, t: u64) -> Op {
     }
 }
 
+// A write of a key for each j.
+fn blind_op(t: u64, j: u64) -> Op {
+    Op {
+        kind: 1,
+        key: (j % 3) as u8,
+        argument: (t % 4) as u8,
+    }
+}
+
 // Operation j of transaction t.
-fn op_of(h: u64, t: u64, j: u64) -> Op {
+fn op_of(h: u64, t: u64, j: u64, blind: bool) -> Op {
+    if blind {
+        return blind_op(t, j);
+    }
     match j {
         0 => first_op(h, t),
         1 => second_op(h, t),
@@ -128,7 +151,7 @@ fn op_byte(o: Op, f: u64) -> u8 {
 }
 
 // Byte i of the log of history h.
-fn log_byte(h: u64, i: u64) -> u8 {
+fn log_byte(h: u64, i: u64, blind: bool) -> u8 {
     if i < 4 {
         return match i {
             0 => 4,
@@ -146,14 +169,14 @@ fn log_byte(h: u64, i: u64) -> u8 {
         };
     }
     let m = (i - 20) / 4 % 12;
-    op_byte(op_of(h, m / 3, m % 3), i % 4)
+    op_byte(op_of(h, m / 3, m % 3, blind), i % 4)
 }
 
-fn log_of(h: u64) -> [u8; 68] {
+fn log_of(h: u64, blind: bool) -> [u8; 68] {
     let mut out = [0u8; 68];
     let mut i: usize = 0;
     while i < 68 {
-        out[i] = log_byte(h, i as u64);
+        out[i] = log_byte(h, i as u64, blind);
         i += 1;
     }
     out
@@ -243,11 +266,14 @@ fn place_explained(log: &[u8], list: [u8; 4], i: usize) -> bool {
 }
 
 // 13 where the list is no permutation, 100 where it is legal, else 101.
-fn direct(log: &[u8], list: [u8; 4]) -> u64 {
+fn direct(log: &[u8], clock: Clock, list: [u8; 4]) -> u64 {
     if !is_permutation(list) {
         return 13;
     }
     if !cabinets_kept(log, list) {
+        return 101;
+    }
+    if !times::kept(clock, list) {
         return 101;
     }
     if place_explained(log, list, 0)
@@ -263,11 +289,14 @@ fn direct(log: &[u8], list: [u8; 4]) -> u64 {
 
 // ---- the comparison
 
+// The histories with a read-back; the lists by what Check says of them; those that would be legal but for the times; those that the direct replay says
+// something else of.
 pub struct Tally {
     pub backs: u64,
     pub refused: u64,
     pub legal: u64,
     pub illegal: u64,
+    pub barred: u64,
     pub different: u64,
 }
 
@@ -275,20 +304,27 @@ fn more(n: u64, yes: bool) -> u64 {
     if yes { wrapping_add_u64(n, 1) } else { n }
 }
 
-// One answer more: of Check, and of the direct replay.
-fn told(s: Tally, check: u64, replay: u64) -> Tally {
+// One answer more: of Check, of the direct replay, and of the same without times.
+fn told(s: Tally, check: u64, replay: u64, free: u64) -> Tally {
     Tally {
         backs: s.backs,
         refused: more(s.refused, check == 13),
         legal: more(s.legal, check == 100),
         illegal: more(s.illegal, check == 101),
+        barred: more(s.barred, check == 101 && free == 100),
         different: more(s.different, check != replay),
     }
 }
 
+// The times of history h in a round.
+fn clock_of(h: u64, r: Round) -> Clock {
+    if r.timed { times::drawn(h) } else { none() }
+}
+
 // List number k: its four numbers are 0 to 3.
-fn one_list(s: Tally, h: u64, k: u64) -> Tally {
-    let log = log_of(h);
+fn one_list(s: Tally, r: Round, h: u64, k: u64) -> Tally {
+    let log = log_of(h, r.blind);
+    let clock = clock_of(h, r);
     let starting = drawn(wrapping_add_u64(h << 8, k));
     let list = [
         (k % 4) as u8,
@@ -296,15 +332,20 @@ fn one_list(s: Tally, h: u64, k: u64) -> Tally {
         (k / 16 % 4) as u8,
         (k / 64 % 4) as u8,
     ];
-    let c = loaded_from(&log, &starting);
-    told(s, check_number(c, &list), direct(&log, list))
+    let c = loaded_by(&log, &starting, clock);
+    told(
+        s,
+        check_number(c, &list),
+        direct(&log, clock, list),
+        direct(&log, none(), list),
+    )
 }
 
-fn all_lists(s: Tally, h: u64) -> Tally {
+fn all_lists(s: Tally, r: Round, h: u64) -> Tally {
     let mut out = s;
     let mut k: u64 = 0;
     while k < 256 {
-        let next = one_list(out, h, k);
+        let next = one_list(out, r, h, k);
         out = next;
         k += 1;
     }
@@ -322,37 +363,39 @@ fn reads_back(log: &[u8], t: u8) -> bool {
 }
 
 // Whether history h has one.
-fn any_back(h: u64) -> bool {
-    let log = log_of(h);
+fn any_back(h: u64, blind: bool) -> bool {
+    let log = log_of(h, blind);
     reads_back(&log, 0) || reads_back(&log, 1) || reads_back(&log, 2) || reads_back(&log, 3)
 }
 
-fn one_history(s: Tally, h: u64) -> Tally {
-    let mut out = all_lists(s, h);
-    out.backs = more(s.backs, any_back(h));
+fn one_history(s: Tally, r: Round, h: u64) -> Tally {
+    let mut out = all_lists(s, r, h);
+    out.backs = more(s.backs, any_back(h, r.blind));
     out
 }
 
-fn all_histories(n: u64) -> Tally {
+fn all_histories(n: u64, r: Round) -> Tally {
     let mut out = Tally {
         backs: 0,
         refused: 0,
         legal: 0,
         illegal: 0,
+        barred: 0,
         different: 0,
     };
     let mut h: u64 = 0;
     while h < n {
-        let next = one_history(out, h);
+        let next = one_history(out, r, h);
         out = next;
         h += 1;
     }
     out
 }
 
-fn main() {
-    let t = all_histories(400);
-    text(b"400 histories, with read-backs");
+fn print(name: &[u8], r: Round) {
+    let t = all_histories(400, r);
+    text(name);
+    text(b", with read-backs");
     number(t.backs);
     text(b"; all lists of four numbers: refused");
     number(t.refused);
@@ -360,7 +403,29 @@ fn main() {
     number(t.legal);
     text(b", not legal");
     number(t.illegal);
+    if r.timed {
+        text(b", by the clock alone");
+        number(t.barred);
+    }
     text(b", different from the direct replay");
     number(t.different);
     end();
+}
+
+fn main() {
+    let plain = Round {
+        timed: false,
+        blind: false,
+    };
+    let timed = Round {
+        timed: true,
+        blind: false,
+    };
+    let blind = Round {
+        timed: true,
+        blind: true,
+    };
+    print(b"400 histories", plain);
+    print(b"400 histories with times", timed);
+    print(b"400 histories with times and no reads", blind);
 }

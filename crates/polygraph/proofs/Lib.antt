@@ -5,3 +5,4 @@ pub mod Decoding
 pub mod Cabinets
 pub mod RowWords
 pub mod ReadEdges
+pub mod Timing

@@ -13,6 +13,8 @@ use lib.ListN.{getD, take, replicate, length-replicate}
 use Rattle.model.specs.Lists.{any, all, fold, upTo, bit, wordOf}
 use Rattle.model.specs.History.{History, start, size, isRead, outward, writes, reads}
 use Rattle.model.specs.Polygraph.{goodRead, nextOfCabinet, startRead, badRead, successor, chainEdge, edge, rows}
+use Rattle.model.specs.Untimed.{untimedEdge}
+use Rattle.model.proofs.Times.{untimed-edges, log-untimed}
 use Rattle.model.specs.Log.{loadNumber, historyOf}
 use Rattle.model.proofs.Loaded.{history-size, operations-past}
 use Rattle.model.proofs.Basics.{decide, not-intro, iff-eq, eq-T, eq-eqb, ne-eqb, eqb-ne, and-l, and-r, and-in, or-out, or-l, or-r, cond-out, cond-yes, cond-no, any-out, any-upTo-in, any-upTo-out, All-imp}
@@ -423,7 +425,7 @@ module _ (b : List ℕ) (e : loadNumber b ≡ 0) where
 
   -- with the edges of the cabinets, all that the model has
   all-edges : (enc u v : ℕ) → u < 32 → v < 32 → ((ltb v (size h) && nextOfCabinet h u v) || any (λ r. readEdge (eqb enc 2) r u v) (readsOf h)) ≡ edge h enc u v
-  unfolding edge byReads
+  unfolding untimedEdge byReads
   all-edges enc u v k l =
       ap (λ z. (ltb v (size h) && nextOfCabinet h u v) || z) (iff-eq (any (λ r. readEdge (eqb enc 2) r u v) (readsOf h)) (byReads (eqb enc 2) u v) (reads-out (eqb enc 2) u v l) (reads-back (eqb enc 2) u v k l))
       ∙ go (ltb u (size h)) (ltb v (size h)) (nextOfCabinet h u v) (any (λ k. goodRead h k v u) (upTo 32)) (startRead h u v) (eqb u v && badRead h u) (eqb enc 2) (chainEdge h u v)
@@ -437,6 +439,7 @@ module _ (b : List ℕ) (e : loadNumber b ≡ 0) where
       let lo = bad-low u (and-r (eqb u v) (badRead h u) x) in
       (low u lo, low v (subst (λ z. z < size h) (eqb→eq u v (and-l (eqb u v) (badRead h u) x)) lo)))
       (λ x. chain-low u v x)
+      ∙ sym (untimed-edges h (log-untimed b) enc u v)
     where
       low : (x : ℕ) → x < size h → T (ltb x (size h))
       low x m = lt→ltb x (size h) m

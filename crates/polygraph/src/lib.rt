@@ -19,6 +19,8 @@ use graph::mask::put_if;
 use graph::mask::with;
 use graph::mask::without;
 
+pub mod clock;
+
 // Words of the table of reads: word key * 32 + u, below START, has the good readers of the key from u; word START + key has those
 // that read the key at start; word BAD has those with a bad read. The table has MARKS words.
 const START: u32 = 1024;
@@ -230,7 +232,7 @@ fn add_read(
     out[t as usize] = out[t as usize] | own;
 }
 
-// The known edges of a log in an encoding: 32 row words.
+// The known edges of a log in an encoding, without those by the office clock, which `clock::add` adds: 32 row words.
 pub fn known(
     log: &[u8],
     n: usize,

@@ -1,23 +1,26 @@
--- The places of an order's numbers, and each cabinet's own order by them. Assumes nothing.
+-- The places of an order's numbers, and each cabinet's own order and that of the office clock by them. Assumes nothing.
 use Prim.Native.Nat.{ℕ, zero, suc, _+_, _≤_, _<_}
 use native.Mathlib.Omega.{arith}
 use native.Mathlib.Nat.{not-suc-le-zero}
 use mathlib.Core.Path.{_≡_, refl, sym, ap, ap₂, subst, _∙_}
 use mathlib.Core.Logic.{_⊎_, ⊎-elim, _≢_}
-use mathlib.Core.Bool.{_&&_}
+use mathlib.Core.Bool.{Bool, _&&_}
 use mathlib.Core.List.{List, [], _∷_}
 use lib.Dec.{T, ltb, eqb}
 use lib.ListN.{length, getD, set}
 use lib.Seq.{getD-set-same, getD-set-other}
 use Rattle.model.specs.Lists.{implies, all, upTo, count, place}
-use Rattle.model.specs.History.{cabinetOf, isOrder, before, mustPrecede, keepsCabinets}
+use Rattle.model.specs.History.{size, cabinetOf, isOrder, before, sentBefore}
 use Rattle.model.specs.Log.{transactionsIn, loadNumber, historyOf}
-use Rattle.model.proofs.Basics.{same?, false-eq, not-intro}
+use Rattle.model.specs.Times.{Times, endedBefore, keepsClock, timedNumber}
+use Rattle.model.specs.Untimed.{keepsCabinets}
+use Rattle.model.proofs.Basics.{same?, true-eq, false-eq, not-intro, all-upTo-in}
 use Rattle.model.proofs.Places.{Once, once-tail, Order, order-out, order-once, order-place, order-length, count-here, count-there, place-here, place-there}
 use Rattle.model.proofs.Loaded.{loaded, history-size}
+use Rattle.model.proofs.Times.{ended-is, ended-past, timed-times}
 use Rattle.log.specs.Reading.{InLog}
 use Rattle.replay.specs.Orders.{Ordered, Places}
-use Rattle.replay.specs.Steps.{keptBy}
+use Rattle.replay.specs.Steps.{keptBy, standsAfter, clockKept}
 use Rattle.replay.proofs.Alls.{all-upTo-same}
 use Rattle.replay.proofs.Ordering.{small-at}
 
@@ -78,16 +81,54 @@ kept-back b places u v l =
 
 pub keeps-is : (b o places : List ℕ) → Order (transactionsIn b) o → Places o places
     → all (λ u. all (keptBy b places u) (upTo (transactionsIn b))) (upTo (transactionsIn b)) ≡ keepsCabinets (historyOf b) o
-unfolding keptBy keepsCabinets
+unfolding keptBy
 keeps-is b o places r p =
-    all-upTo-same (λ u. all (keptBy b places u) (upTo (transactionsIn b))) (λ u. all (λ v. implies (mustPrecede (historyOf b) u v) (before o u v)) (upTo (transactionsIn b))) (transactionsIn b)
+    all-upTo-same (λ u. all (keptBy b places u) (upTo (transactionsIn b))) (λ u. all (λ v. implies (sentBefore (historyOf b) u v) (before o u v)) (upTo (transactionsIn b))) (transactionsIn b)
     (λ u hu.
-    all-upTo-same (keptBy b places u) (λ v. implies (mustPrecede (historyOf b) u v) (before o u v)) (transactionsIn b)
-    (λ v hv. ap₂ (λ x y. implies (mustPrecede (historyOf b) u v) (ltb x y)) (p .at u (inside u hu)) (p .at v (inside v hv))))
-    ∙ ap (λ n. all (λ u. all (λ v. implies (mustPrecede (historyOf b) u v) (before o u v)) (upTo n)) (upTo n)) (sym (history-size b))
+    all-upTo-same (keptBy b places u) (λ v. implies (sentBefore (historyOf b) u v) (before o u v)) (transactionsIn b)
+    (λ v hv. ap₂ (λ x y. implies (sentBefore (historyOf b) u v) (ltb x y)) (p .at u (inside u hu)) (p .at v (inside v hv))))
+    ∙ ap (λ n. all (λ u. all (λ v. implies (sentBefore (historyOf b) u v) (before o u v)) (upTo n)) (upTo n)) (sym (history-size b))
   where
     inside : (t : ℕ) → t < transactionsIn b → place t o < length o
     inside t l = omega (arith, order-place r t l, order-length r)
+
+-- ---- the order of the office clock
+
+module _ (b : List ℕ) (ts : Times) (taken : timedNumber b ts ≡ 0) (o places : List ℕ) (r : Order (transactionsIn b) o) (p : Places o places) where
+  -- the model's test of u and v, and the code's of those that have times
+  abbrev byClock : ℕ → ℕ → Bool
+  byClock u v = implies (endedBefore ts u v) (before o u v)
+
+  abbrev n : ℕ
+  n = transactionsIn b
+
+  pair-is : (u v : ℕ) → u < length (ts .ends) → u < n → v < n → standsAfter (getD (ts .ends) u 0 + ts .drift) (getD (ts .begins) v 0) places u v ≡ byClock u v
+  unfolding standsAfter
+  pair-is u v has hu hv =
+      ap₂ (λ x y. implies x y) (sym (ended-is ts u v has)) (ap₂ ltb (p .at u (inside u hu)) (p .at v (inside v hv)))
+    where
+      inside : (t : ℕ) → t < n → place t o < length o
+      inside t l = omega (arith, order-place r t l, order-length r)
+
+  none : length (ts .begins) ≡ 0 → (u v : ℕ) → T (byClock u v)
+  none e u v = subst (λ x. T (implies x (before o u v))) (sym (ended-past ts u v (omega (arith, e)))) tt
+
+  pub clock-is : all (clockKept ts places) (upTo (length (ts .ends))) ≡ keepsClock ts (size (historyOf b)) o
+  unfolding clockKept
+  clock-is =
+      ⊎-elim
+      (λ (z : (length (ts .begins) ≡ 0) × (length (ts .ends) ≡ 0)).
+      ap (λ m. all (clockKept ts places) (upTo m)) (z .1)
+      ∙ sym (true-eq (all (λ u. all (byClock u) (upTo n)) (upTo n)) (all-upTo-in (λ u. all (byClock u) (upTo n)) n (λ u hu. all-upTo-in (byClock u) n (λ v hv. none (z .0) u v)))))
+      (λ (z : (length (ts .begins) ≡ n) × (length (ts .ends) ≡ n)).
+      ap (λ m. all (clockKept ts places) (upTo m)) (z .1)
+      ∙ all-upTo-same (clockKept ts places) (λ u. all (byClock u) (upTo n)) n
+      (λ u hu.
+      ap (λ m. all (λ v. standsAfter (getD (ts .ends) u 0 + ts .drift) (getD (ts .begins) v 0) places u v) (upTo m)) (z .0)
+      ∙ all-upTo-same (λ v. standsAfter (getD (ts .ends) u 0 + ts .drift) (getD (ts .begins) v 0) places u v) (byClock u) n
+      (λ v hv. pair-is u v (omega (arith, hu, z .1)) hu hv)))
+      (timed-times b ts taken .lengths)
+      ∙ ap (λ m. all (λ u. all (byClock u) (upTo m)) (upTo m)) (sym (history-size b))
 
 -- ---- an order of a log's transactions
 

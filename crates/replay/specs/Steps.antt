@@ -1,16 +1,25 @@
 -- The tests of an order and the replay, step by step, as the code makes them. Laws in proofs/ say that they are the model's. Assumes nothing.
-use Prim.Native.Nat.{ℕ}
+use Prim.Native.Nat.{ℕ, _+_}
 use mathlib.Core.Bool.{Bool, cond}
 use mathlib.Core.List.{List}
 use lib.Dec.{eqb, ltb}
-use lib.ListN.{getD, set}
-use Rattle.model.specs.Lists.{implies, all, keep, fold}
-use Rattle.model.specs.History.{Operation, History, operationsOf, outwardOf, isRead, isWrite, mustPrecede}
+use lib.ListN.{length, getD, set}
+use Rattle.model.specs.Lists.{implies, all, keep, fold, upTo}
+use Rattle.model.specs.History.{Operation, History, operationsOf, outwardOf, isRead, isWrite, sentBefore}
 use Rattle.model.specs.Log.{historyOf}
+use Rattle.model.specs.Times.{Times}
 
--- u stands before v where it must, by the places of an order
+-- by the places of an order u stands before v where their cabinet sent it first
 unfoldable pub keptBy : List ℕ → List ℕ → ℕ → ℕ → Bool
-keptBy b places u v = implies (mustPrecede (historyOf b) u v) (ltb (getD places u 0) (getD places v 0))
+keptBy b places u v = implies (sentBefore (historyOf b) u v) (ltb (getD places u 0) (getD places v 0))
+
+-- by the places of an order u stands before v where v began after the moment
+unfoldable pub standsAfter : ℕ → ℕ → List ℕ → ℕ → ℕ → Bool
+standsAfter moment begin places u v = implies (ltb moment begin) (ltb (getD places u 0) (getD places v 0))
+
+-- u stands before each that began after its end, with the drift added
+unfoldable pub clockKept : Times → List ℕ → ℕ → Bool
+clockKept ts places u = all (λ v. standsAfter (getD (ts .ends) u 0 + ts .drift) (getD (ts .begins) v 0) places u v) (upTo (length (ts .begins)))
 
 -- a read names the last writer of its key
 unfoldable pub agreesBy : List ℕ → Operation → Bool

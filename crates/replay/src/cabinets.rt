@@ -1,16 +1,16 @@
-// What a legal order keeps besides its reads: each cabinet's own order.
+// What a legal order keeps besides its reads and the order of the office clock: each cabinet's own order.
 ghost use mathlib.Core.Path.{_≡_};
 ghost use Prim.Native.Nat.{ℕ, _<_};
 ghost use Rattle.model.specs.Lists.{all, upTo};
-ghost use Rattle.model.specs.History.{mustPrecede};
+ghost use Rattle.model.specs.History.{sentBefore};
 ghost use Rattle.model.specs.Log.{transactionsIn, loadNumber, historyOf};
 ghost use Rattle.log.specs.Reading.{InLog};
 ghost use Rattle.replay.specs.Steps.{keptBy};
 
-// Whether u must stand before v.
-fn must_precede(log: &[u8], u: usize, v: usize) -> bool
+// Whether one cabinet sent u before v.
+fn sent_before(log: &[u8], u: usize, v: usize) -> bool
     requires { ⌜ InLog (now log) u × InLog (now log) v ⌝ }
-    ensures { λ r. ⌜ r ≡ mustPrecede (historyOf (now (log .entry))) u v ⌝ }
+    ensures { λ r. ⌜ r ≡ sentBefore (historyOf (now (log .entry))) u v ⌝ }
 {
     if u >= v {
         return false;
@@ -18,12 +18,12 @@ fn must_precede(log: &[u8], u: usize, v: usize) -> bool
     log::cabinet(log, u) == log::cabinet(log, v)
 }
 
-// Whether u stands before v, where it must.
+// Whether u stands before v, where it was sent before it.
 fn keeps_pair(log: &[u8], places: [u8; 32], u: usize, v: usize) -> bool
     requires { ⌜ InLog (now log) u × InLog (now log) v ⌝ }
     ensures { λ r. ⌜ r ≡ keptBy (now (log .entry)) places u v ⌝ }
 {
-    if !must_precede(log, u, v) {
+    if !sent_before(log, u, v) {
         return true;
     }
     places[u] < places[v]

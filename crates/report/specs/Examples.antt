@@ -3,7 +3,7 @@ use Prim.Native.Nat.{ℕ}
 use mathlib.Core.Path.{_≡_, refl}
 use mathlib.Core.List.{List, [], _∷_}
 use Rattle.model.specs.Lists.{All, bit}
-use Rattle.model.specs.History.{isReadBack, outward, writes, reads, lastWriter, explained, everyReadExplained, isOrder, keepsCabinets, legal, stored, replay}
+use Rattle.model.specs.History.{isReadBack, outward, writes, reads, lastWriter, explained, everyReadExplained, isOrder, keepsPrecedence, legal, stored, replay}
 use Rattle.model.specs.Log.{pairAt, countsBefore, firstNumber, entryNumber, seen, backAt, seenBack, again, bodyNumber, bodiesNumber, loadNumber, transactionAt, historyOf}
 use Rattle.model.specs.Search.{arrangements, firstLegal}
 use Rattle.report.specs.Text.{letters, digits, numberText, refusedText, orderText, keyText, lineIf, tableText, foundText}
@@ -49,5 +49,5 @@ examples =
     ∷ []
 
 pub examples-printed : All (λ (e : Example). judgeText (e .input) ≡ e .text) examples
-unfolding bit isReadBack outward writes reads lastWriter explained everyReadExplained isOrder keepsCabinets legal stored replay arrangements firstLegal pairAt countsBefore firstNumber entryNumber seen backAt seenBack again bodyNumber bodiesNumber loadNumber transactionAt historyOf digits numberText refusedText orderText keyText lineIf tableText foundText written decidedText judgeText
+unfolding bit isReadBack outward writes reads lastWriter explained everyReadExplained isOrder keepsPrecedence legal stored replay arrangements firstLegal pairAt countsBefore firstNumber entryNumber seen backAt seenBack again bodyNumber bodiesNumber loadNumber transactionAt historyOf digits numberText refusedText orderText keyText lineIf tableText foundText written decidedText judgeText
 examples-printed = (refl, (refl, (refl, (refl, (refl, (refl, (refl, (refl, (refl, (refl, (refl, tt)))))))))))

@@ -1,10 +1,12 @@
-// What the test programs share: a full log to change bytes of, logs with read-backs at the limits, starting tables, calls with their answers as numbers,
-// and lines of output.
+// What the test programs share: a full log to change bytes of, logs with read-backs at the limits, starting tables, times, calls with their answers as
+// numbers, and lines of output.
+use checker::Answer;
 use checker::Case;
 use checker::Judgement;
 use checker::Stage;
 
 mod backs;
+pub mod clocks;
 pub mod lines;
 pub mod tables;
 
@@ -113,9 +115,30 @@ pub fn with_byte(log: [u8; 1156], i: usize, x: u8) -> [u8; 1156] {
     out
 }
 
-// The number that Load gives of a log beside a starting table.
+// Load of a log beside a starting table, without times.
+pub fn load_from(c: Case, log: &[u8], starting: &[u16]) -> Answer {
+    let begin = [0u32; 32];
+    let end = [0u32; 32];
+    c.load(log, starting, &begin[..0], &end[..0], 0)
+}
+
+// The number that Load gives of a log beside a starting table and times.
+pub fn load_number_at(
+    c: Case,
+    log: &[u8],
+    starting: &[u16],
+    begin: &[u32],
+    end: &[u32],
+    drift: u32,
+) -> u64 {
+    let a = c.load(log, starting, begin, end, drift);
+    let r = a.reply;
+    r.number() as u64
+}
+
+// The same without times.
 pub fn load_number_from(c: Case, log: &[u8], starting: &[u16]) -> u64 {
-    let a = c.load(log, starting);
+    let a = load_from(c, log, starting);
     let r = a.reply;
     r.number() as u64
 }
@@ -143,10 +166,16 @@ pub fn changed_number(i: usize, x: u8, j: usize, y: u8) -> u64 {
     )
 }
 
-// The case that holds a log beside a starting table.
-pub fn loaded_from(log: &[u8], starting: &[u16]) -> Case {
+// The case that holds a log beside a starting table and times.
+pub fn loaded_at(log: &[u8], starting: &[u16], begin: &[u32], end: &[u32], drift: u32) -> Case {
     let fresh = Case::fresh();
-    let a = fresh.load(log, starting);
+    let a = fresh.load(log, starting, begin, end, drift);
+    a.case
+}
+
+// The same without times.
+pub fn loaded_from(log: &[u8], starting: &[u16]) -> Case {
+    let a = load_from(Case::fresh(), log, starting);
     a.case
 }
 
@@ -197,8 +226,8 @@ fn stage_number(s: Stage) -> u8 {
     }
 }
 
-// Whether two cases are the same but for the starting tables.
-fn same_rest(a: Case, b: Case) -> bool {
+// Whether two cases have the same stage and log.
+fn same_log(a: Case, b: Case) -> bool {
     let s = a.stage;
     let t = b.stage;
     if stage_number(s) != stage_number(t) {
@@ -209,9 +238,11 @@ fn same_rest(a: Case, b: Case) -> bool {
     }
     let x = a.bytes;
     let y = b.bytes;
-    if !check::same(&x, &y) {
-        return false;
-    }
+    check::same(&x, &y)
+}
+
+// Whether two cases have the same order.
+fn same_order(a: Case, b: Case) -> bool {
     let o = a.order;
     let p = b.order;
     check::same(&o, &p)
@@ -221,5 +252,7 @@ fn same_rest(a: Case, b: Case) -> bool {
 pub fn same_case(a: Case, b: Case) -> bool {
     let v = a.starting;
     let w = b.starting;
-    tables::same(v, w) && same_rest(a, b)
+    let x = a.clock;
+    let y = b.clock;
+    tables::same(v, w) && clocks::same(x, y) && same_log(a, b) && same_order(a, b)
 }

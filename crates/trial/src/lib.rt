@@ -1,17 +1,21 @@
-// Random histories for test programs, and a direct reading of document 01 and card 1 over them. Nothing here is shared with the code under test: a sample is a
-// table of its own, its log is written from that table (module `log`), and the first legal order is found by going through all permutations
-// (module `orders`). The contracts say nothing; the functions are proved safe and ending.
+// Random histories for test programs, and a direct reading of document 01 and cards 1 and 7 over them. Nothing here is shared with the code under test: a
+// sample is a table of its own, its log is written from that table (module `log`), its times stand beside it (module `times`), and the first legal order is
+// found by going through all permutations (module `orders`). The contracts say nothing; the functions are proved safe and ending.
+use times::Times;
+
 pub mod log;
 pub mod orders;
+pub mod times;
 
 // A history of `size` transactions, at most 32, over up to 4 keys. Place 4 * t + k of `code` says what transaction t does with key k: 0 nothing, 1 it reads,
 // 2 it writes, 3 it reads and then writes, 4 it writes and reads back, 5 it reads, writes and reads back; the same place of `names` is what the read before
-// the write, or of a key not written, names. A read-back names its own transaction.
+// the write, or of a key not written, names. A read-back names its own transaction. The first `size` times count.
 pub struct Sample {
     pub size: u8,
     pub cabinet: [u8; 32],
     pub code: [u8; 128],
     pub names: [u16; 128],
+    pub times: Times,
 }
 
 // The kinds of histories.
@@ -41,7 +45,7 @@ pub fn below(seed: u64, n: u64) -> u64 {
 }
 
 // The random number of a place: neighbours differ.
-fn at(seed: u64, place: u64) -> u64 {
+pub(crate) fn at(seed: u64, place: u64) -> u64 {
     next(next(seed % 2147483648 + place % 65536 * 7919))
 }
 
@@ -84,18 +88,20 @@ fn cabinet_by(mode: u64, t: u8, seed: u64) -> u8 {
     (below(seed, 3) % 8) as u8
 }
 
-// A sample with its cabinets, and nothing done yet.
+// A sample with its cabinets and no times, and nothing done yet.
 fn empty(seed: u64, size: u8) -> Sample {
     let mut cabinet = [0u8; 32];
     let mode = below(seed, 3);
     for t in 0..32usize {
         cabinet[t] = cabinet_by(mode, t as u8, at(seed, 100 + t as u64));
     }
+    let times = times::without(0);
     Sample {
         size,
         cabinet,
         code: [0; 128],
         names: [65535; 128],
+        times,
     }
 }
 
@@ -152,13 +158,20 @@ pub fn history(kind: u8, size: u8, keys: u8, seed: u64) -> Sample {
     if kind == ANY {
         return s;
     }
-    let order = orders::shuffled(s.size, at(seed, 300));
+    let order = times::run_order(s.size, seed);
     let run = orders::as_run(s, order);
     if kind == DISTURBED {
         let p = below(at(seed, 301), 4 * (size as u64)) as usize;
         return with_name(run, p, name_by(run.size, at(seed, 302)));
     }
     run
+}
+
+// The sample with other times.
+pub fn with_times(s: Sample, x: Times) -> Sample {
+    let mut out = s;
+    out.times = x;
+    out
 }
 
 // A small one: up to 6 transactions over 1 to 3 keys.

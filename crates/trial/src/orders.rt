@@ -1,5 +1,6 @@
 // Orders of a sample's transactions: a random one, what a run in an order reads, whether an order is legal, and all orders in turn.
 use crate::Sample;
+use crate::times::Times;
 
 // An order, and whether there is one.
 pub struct Step {
@@ -54,7 +55,7 @@ pub fn ascending() -> [u8; 32] {
 }
 
 // The order with two places exchanged.
-fn exchanged(order: [u8; 32], i: usize, j: usize) -> [u8; 32] {
+pub(crate) fn exchanged(order: [u8; 32], i: usize, j: usize) -> [u8; 32] {
     let mut out = order;
     out[i % 32] = order[j % 32];
     out[j % 32] = order[i % 32];
@@ -128,17 +129,35 @@ pub fn as_run(s: Sample, order: [u8; 32]) -> Sample {
     out
 }
 
-// Whether the numbers at places i and j of the order keep their cabinet's own order.
+// Whether an end and the drift together are before a begin. The sum may pass 32 bits.
+fn ended_before(end: u32, drift: u32, begin: u32) -> bool {
+    (end as u64) + (drift as u64) < begin as u64
+}
+
+// Whether the clock lets u stand before v: not where v ended before u began.
+fn timely(x: Times, u: u8, v: u8) -> bool {
+    if !x.timed {
+        return true;
+    }
+    !ended_before(
+        x.end[(v % 32) as usize],
+        x.drift,
+        x.begin[(u % 32) as usize],
+    )
+}
+
+// Whether the numbers at places i and j of the order keep their cabinet's own order and the clock's.
 fn keeps(s: Sample, order: [u8; 32], i: usize, j: usize) -> bool {
     let u = order[i % 32];
     let v = order[j % 32];
-    if s.cabinet[(u % 32) as usize] == s.cabinet[(v % 32) as usize] {
-        return u < v;
+    if s.cabinet[(u % 32) as usize] == s.cabinet[(v % 32) as usize] && u > v {
+        return false;
     }
-    true
+    let x = s.times;
+    timely(x, u, v)
 }
 
-// Whether the order of at most 8 numbers keeps each cabinet's own order.
+// Whether the order of at most 8 numbers keeps each cabinet's own order and the clock's.
 fn keeps_all(s: Sample, order: [u8; 32]) -> bool {
     for q in 0..64usize {
         if q / 8 < q % 8 {
@@ -146,6 +165,19 @@ fn keeps_all(s: Sample, order: [u8; 32]) -> bool {
                 if !keeps(s, order, q / 8, q % 8) {
                     return false;
                 }
+            }
+        }
+    }
+    true
+}
+
+// Whether the order of at most 8 numbers keeps the clock's.
+pub fn keeps_clock(s: Sample, order: [u8; 32]) -> bool {
+    let x = s.times;
+    for q in 0..64usize {
+        if q / 8 < q % 8 && q % 8 < s.size as usize {
+            if !timely(x, order[q / 8], order[q % 8]) {
+                return false;
             }
         }
     }

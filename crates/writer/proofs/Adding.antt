@@ -11,7 +11,7 @@ use lib.Dec.{eqb}
 use lib.ListN.{length, set, length-set}
 use lib.Seq.{getD-set-same, getD-set-other}
 use Rattle.model.specs.Lists.{upTo}
-use Rattle.model.specs.History.{History, Transaction, Operation}
+use Rattle.model.specs.History.{History, Transaction, Operation, untimed}
 use Rattle.model.specs.Writing.{sumOf, allOperations, transactionFrom, historyFrom}
 use Rattle.model.proofs.Words.{length-upTo}
 use Rattle.model.proofs.Loops.{map-snoc}
@@ -23,7 +23,7 @@ use Rattle.writer.specs.declared.Notes.{Notes}
 use Rattle.writer.proofs.Holding.{NoteRoom}
 
 pub with-last : (h : History) (t : Transaction) (o : Operation)
-    → withOperation (h ++ (t ∷ [])) o ≡ h ++ (record { cabinet = t .cabinet; operations = t .operations ++ (o ∷ []) } ∷ [])
+    → withOperation (h ++ (t ∷ [])) o ≡ h ++ (record { cabinet = t .cabinet; operations = t .operations ++ (o ∷ []); begin = t .begin; until = t .until } ∷ [])
 with-last [] t o = refl
 with-last (x ∷ []) t o = refl
 with-last (x ∷ y ∷ h) t o = ap (λ r. x ∷ r) (with-last (y ∷ h) t o)
@@ -106,7 +106,7 @@ module _ (n : Notes) where
         ∙ from-suc t c k o
         ∙ ap₂ (λ x (y : Transaction). x ++ (y ∷ []))
         (from-same t c (at (n .cabinets)) k (at (n .counts)) o o (other (n .cabinets) cabinet) (other (n .counts) 0) (λ i j. refl))
-        (ap₂ {C = Transaction} (λ x y. record { cabinet = x; operations = map (λ m. o (sumOf k t + m)) (upTo y) })
+        (ap₂ {C = Transaction} (λ x y. untimed x (map (λ m. o (sumOf k t + m)) (upTo y)))
         (getD-set-same (n .cabinets) t cabinet 0 (omega (arith, s .cabinets))) (getD-set-same (n .counts) t 0 0 (omega (arith, s .counts))))
 
   -- ---- an operation more
@@ -157,7 +157,7 @@ module _ (n : Notes) where
         ∙ ap₂ (λ x (y : Operation). x ++ (y ∷ [])) before (ap o′ (ap (λ x. x + k t) sum ∙ sym place) ∙ here) in
         ap (λ m. historyFrom m c k′ o′) last
         ∙ from-suc t c k′ o′
-        ∙ ap₂ (λ x (y : List Operation). x ++ (record { cabinet = c t; operations = y } ∷ []))
+        ∙ ap₂ (λ x (y : List Operation). x ++ (untimed (c t) y ∷ []))
         (from-same t c c k′ k o′ o (λ j q. refl) counts (λ j q. other j (omega (arith, sum, place)))) operations
         ∙ sym (with-last (historyFrom t c k o) (transactionFrom c k o t) (record { kind = kind; key = key; argument = argument }))
         ∙ ap (λ x. withOperation x (record { kind = kind; key = key; argument = argument })) (sym (from-suc t c k o) ∙ ap (λ m. historyFrom m c k o) (sym last))

@@ -16,7 +16,7 @@ use Rattle.model.specs.Log.{transactionsIn, countAt, loadNumber, historyOf}
 use Rattle.model.specs.Writing.{logOf, isLog, hasLog}
 use Rattle.model.proofs.Basics.{same?, true-eq, false-eq, not-intro}
 use Rattle.model.proofs.Loaded.{loaded, Bytes}
-use Rattle.model.proofs.Writing.{loads-back}
+use Rattle.model.proofs.Writing.{loads-tables}
 use Rattle.model.proofs.Logs.{has-log-out, has-log-of, has-log-in, good-narrow, log-good}
 use Rattle.writer.specs.Held.{held, heldLog, isOpen, withTransaction, withOperation, Sized}
 use Rattle.writer.specs.Calls.{freshNotes, answering, openRefusal, openedNotes, opening, noteRefusal, notedNotes, noting, closeRefusal, closedNotes, closing, writeRefusal, writing, bufferAfter}
@@ -29,6 +29,11 @@ use Rattle.writer.proofs.Holding.{held-length, room-out, room-of, open-
 use Rattle.writer.proofs.Adding.{fresh-held, fresh-shut, held-size, close-held, close-shuts, open-held, open-opens, note-held, note-open}
 use Rattle.writer.proofs.Running.{held-count, open-32, open-33, open-0, note-31, note-beyond, note-33, note-0, close-31, close-0, run-tells}
 use Rattle.writer.proofs.Renoting.{opens, notes-each, closes, again-held, again-written, again-writing}
+
+-- notes have no times: what is written of them reads back as it is
+loads-held : (n : Notes) → historyOf (logOf (held n)) ≡ held n
+unfolding held
+loads-held n = loads-tables (n .transactions) _ _ _
 
 -- ---- each number under its condition, in the order of the tests; the conditions of a call leave no case out
 
@@ -140,7 +145,7 @@ written-log-yields-the-notes n out e =
     ap (λ b. take (cond b (length (heldLog n)) 0) (cond b (heldLog n ++ drop (length (heldLog n)) out) out)) none
     ∙ take-append-seam (heldLog n) (drop (length (heldLog n)) out) in
     let log = has-log-out (held n) (write-room n (length out) e .log) in
-    (ap (λ b. cond b (length (heldLog n)) 0) none, front, subst Bytes (sym front) (log .0), ap loadNumber front ∙ log .1, ap historyOf front ∙ loads-back (held n))
+    (ap (λ b. cond b (length (heldLog n)) 0) none, front, subst Bytes (sym front) (log .0), ap loadNumber front ∙ log .1, ap historyOf front ∙ loads-held n)
 
 -- So whatever calls were made from fresh notes: what is written loads as what they mean.
 pub a-written-run-loads-as-it-means : (calls : List Call) (out : List ℕ) → let n = run calls in writeRefusal n (length out) ≡ 0
@@ -198,7 +203,7 @@ module _ (n : Notes) (shut : isOpen n ≡ false) (room : ℕ) where
   pub refused-with-33-exactly-where-Load-refuses : (writeRefusal n room ≡ 33) ↔ (Bytes (heldLog n) × (loadNumber (heldLog n) ≡ 0) → ⊥)
   unfolding heldLog
   refused-with-33-exactly-where-Load-refuses = (
-    (λ e log. refused-with-33 .0 e (subst (λ h. T (hasLog h)) (loads-back (held n)) (has-log-of (logOf (held n)) (log .0) (log .1)))),
+    (λ e log. refused-with-33 .0 e (subst (λ h. T (hasLog h)) (loads-held n) (has-log-of (logOf (held n)) (log .0) (log .1)))),
     λ none. refused-with-33 .1 (λ t. none (has-log-out (held n) t)),
   )
 
@@ -206,7 +211,7 @@ module _ (n : Notes) (shut : isOpen n ≡ false) (room : ℕ) where
   pub refused-with-33-exactly-where-no-log-holds-the-notes : (writeRefusal n room ≡ 33) ↔ ((b : List ℕ) → Bytes b → loadNumber b ≡ 0 → historyOf b ≢ held n)
   refused-with-33-exactly-where-no-log-holds-the-notes = (
     (λ e b small zero-is same. refused-with-33 .0 e (subst (λ h. T (hasLog h)) same (has-log-of b small zero-is))),
-    λ none. refused-with-33 .1 (λ t. let log = has-log-out (held n) t in none (logOf (held n)) (log .0) (log .1) (loads-back (held n))),
+    λ none. refused-with-33 .1 (λ t. let log = has-log-out (held n) t in none (logOf (held n)) (log .0) (log .1) (loads-held n)),
   )
 
   -- so a transaction of 256 operations, whose count has no byte, is refused

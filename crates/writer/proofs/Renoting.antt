@@ -10,7 +10,7 @@ use borrow.Author.Tests.{lt-ltb, le-ltb, eq-eqb, ne-eqb}
 use lib.Dec.{eqb}
 use lib.ListN.{length, length-append, drop}
 use Rattle.model.specs.Lists.{upTo}
-use Rattle.model.specs.History.{History, Transaction, Operation}
+use Rattle.model.specs.History.{History, Transaction, Operation, untimed}
 use Rattle.model.specs.Log.{transactionsIn, cabinetAt, countAt, startAt, kindAt, keyAt, argumentAt, loadNumber, operationAt, historyOf}
 use Rattle.model.specs.Writing.{sumOf, allOperations, logOf, hasLog, historyFrom}
 use Rattle.model.proofs.Basics.{true-eq}
@@ -39,7 +39,7 @@ module _ (b : List ℕ) where
 
   -- transaction t with its first m operations
   abbrev begun : ℕ → ℕ → Transaction
-  begun t m = record { cabinet = cabinetAt b t; operations = map (λ j. operationAt b (sums t + j)) (upTo m) }
+  begun t m = untimed (cabinetAt b t) (map (λ j. operationAt b (sums t + j)) (upTo m))
 
   -- the first t transactions are noted, and none is open
   pub record Whole (n : Notes) (t : ℕ) : Type 0 where
@@ -123,7 +123,7 @@ module _ (b : List ℕ) where
                   note-held n (kindAt b i) (keyAt b i) (argumentAt b i) (p .sized) room
                   ∙ ap (λ h. withOperation h (operationAt b i)) (p .holds)
                   ∙ with-last (first t) (begun t m) (operationAt b i)
-                  ∙ ap (λ os. first t ++ (record { cabinet = cabinetAt b t; operations = os } ∷ []))
+                  ∙ ap (λ os. first t ++ (untimed (cabinetAt b t) os ∷ []))
                   (ap (λ x. map f (upTo m) ++ (operationAt b x ∷ [])) i-is ∙ sym (map-snoc f (upTo m) m));
             }
 

@@ -8,7 +8,7 @@ use borrow.Author.Tests.{lt-ltb, le-ltb, ltb-true, ltb-false}
 use lib.Dec.{ltb}
 use lib.ListN.{length, length-append}
 use Rattle.model.specs.Lists.{fold}
-use Rattle.model.specs.History.{History, Transaction, Operation, size, operationCount}
+use Rattle.model.specs.History.{History, Transaction, Operation, untimed, size, operationCount}
 use Rattle.model.specs.Writing.{allOperations}
 use Rattle.model.proofs.Loops.{each-snoc}
 use Rattle.model.proofs.Writing.{count-all}
@@ -75,7 +75,7 @@ module _ (n : Notes) where
 
 open-count : (h : History) (cabinet : ℕ) → operationCount (withTransaction h cabinet) ≡ operationCount h
 open-count h cabinet =
-    let x : Transaction = record { cabinet = cabinet; operations = [] } in
+    let x : Transaction = untimed cabinet [] in
     count-all 0 (h ++ (x ∷ []))
     ∙ ap (λ os. 0 + length os) (each-snoc (λ (t : Transaction). t .operations) h x ∙ append-nil (allOperations h))
     ∙ sym (count-all 0 h)

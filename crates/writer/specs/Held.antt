@@ -5,7 +5,7 @@ use mathlib.Core.Path.{_≡_}
 use mathlib.Core.List.{List, [], _∷_, _++_}
 use lib.Dec.{eqb}
 use lib.ListN.{length}
-use Rattle.model.specs.History.{History, Operation}
+use Rattle.model.specs.History.{History, Operation, untimed}
 use Rattle.model.specs.Writing.{sumOf, logOf, historyFrom}
 use Rattle.writer.specs.Rows.{at, operationIn}
 use Rattle.writer.specs.declared.Notes.{Notes}
@@ -30,12 +30,12 @@ isOpen n = cond (eqb (n .transactions) 0) false (n .opened)
 
 -- a transaction more, without operations
 abbrev pub withTransaction : History → ℕ → History
-withTransaction h cabinet = h ++ (record { cabinet = cabinet; operations = [] } ∷ [])
+withTransaction h cabinet = h ++ (untimed cabinet [] ∷ [])
 
 -- an operation more, behind those of the last transaction
 abbrev pub withOperation : History → Operation → History
 withOperation [] o = []
-withOperation (t ∷ []) o = record { cabinet = t .cabinet; operations = t .operations ++ (o ∷ []) } ∷ []
+withOperation (t ∷ []) o = record { cabinet = t .cabinet; operations = t .operations ++ (o ∷ []); begin = t .begin; until = t .until } ∷ []
 withOperation (t ∷ u ∷ h) o = t ∷ withOperation (u ∷ h) o
 
 -- the arrays have the lengths that their types give them

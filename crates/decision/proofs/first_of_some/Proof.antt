@@ -21,12 +21,12 @@ slice-aggregate-first-closed c = sym (c .before .before .words .ensures .long)
 first-closed-requires : tie.Need-first-closed-requires
 first-closed-requires c κs =
     let s = c .before .before .before .before .before .before in
-    (asked (s .args .log .now) (s .pre .0) _ (c .before .before .before .before .transactions .ensures .0) (s .args .tables .now) (s .args .chosen .now) _ _ (s .pre .2) 2048 (omega (arith, s .pre .1)) _ (c .before .before .words .ensures), s .pre .3)
+    (asked (s .args .log .now) (s .pre .0) (s .pre .2 .0) _ (c .before .before .before .before .transactions .ensures .0) (s .args .tables .now) (s .args .chosen .now) _ _ (s .pre .2 .1) 2048 (omega (arith, s .pre .1)) _ (c .before .before .words .ensures), s .pre .3)
 
 returns : tie.Need-returns
 returns c =
     let s = c .before .before .before .before .before .before .before in
-    answered (s .args .log .now) (s .pre .0) _ (c .before .before .before .before .before .transactions .ensures .0) (s .args .tables .now) (s .args .chosen .now) _ _ (s .pre .2) 2048 (omega (arith, s .pre .1)) _ (c .before .before .before .words .ensures) _ (c .first-closed .ensures)
+    λ at settled. answered (s .args .log .now) (s .pre .0) at _ (c .before .before .before .before .before .transactions .ensures .0) (s .args .tables .now) (s .args .chosen .now) _ _ settled 2048 (omega (arith, s .pre .1)) _ (c .before .before .before .words .ensures) _ (c .first-closed .ensures)
 
 pub first-of-some-spec : {M : Type 1} → statement M
 first-of-some-spec =

@@ -1,21 +1,19 @@
 -- `host::beaconcrumb_decide_from` meets its contract. Assumes nothing.
-use mathlib.Core.Path.{sym, ap, _∙_}
-use Rattle.host.specs.Codes.{decideFromCode, decideFromOrder, decideFromTable}
-use Rattle.host.proofs.Starting.{from-refused, from-taken}
+use mathlib.Core.Path.{_∙_}
+use Rattle.codes.proofs.Strict.{untimed}
 use borrow.Author.Needs.{needs}
 use Rattle.host.proofs.beaconcrumb_decide_from.Statement.{statement}
 use Rattle.host.proofs.beaconcrumb_decide_from.Tie as tie
-use Rattle.host.proofs.decide.Reads as decide-reads
-use Rattle.host.proofs.images.values.Reads as values-reads
+use Rattle.host.proofs.beaconcrumb_decide_strict.Reads as decide-strict-reads
 
-returns : tie.Need-returns
-returns c = let a = c .before .before .before .before .before .args in from-refused (a .log .now) (a .start .now) (a .encoding) (a .pruning) (a .order .now) (a .table .now) (search needs)
+array-share-prefix-zeros : tie.Need-array-share-prefix-zeros
+array-share-prefix-zeros c = search needs
 
-values-requires : tie.Need-values-requires
-values-requires c κs = search needs
+slice-aggregate-none : tie.Need-slice-aggregate-none
+slice-aggregate-none c = search needs
 
-decide-requires : tie.Need-decide-requires
-decide-requires c κs = search needs
+beaconcrumb-decide-strict-requires : tie.Need-beaconcrumb-decide-strict-requires
+beaconcrumb-decide-strict-requires c κs = search needs
 
 same-length : tie.Need-same-length
 same-length c = search needs
@@ -23,11 +21,13 @@ same-length c = search needs
 same-length-2 : tie.Need-same-length-2
 same-length-2 c = search needs
 
-returns-2 : tie.Need-returns-2
-returns-2 c =
-    let a = c .before .before .before .before .before .before .before .before .before .before .before .before .before .args in
-    from-taken (a .log .now) (a .start .now) (a .encoding) (a .pruning) (a .order .now) (a .table .now) (c .before .before .before .before .before .before .before .before .if1 .left) _ (c .before .before .before .before .before .before .before .values .ensures) _ _ _ (c .before .before .before .before .decide .ensures)
+returns : tie.Need-returns
+returns c =
+    let a = c .before .before .before .before .before .before .before .before .before .before .before .before .args in
+    let e = c .before .before .before .before .beaconcrumb-decide-strict .ensures in
+    let u = untimed (a .log .now) (a .start .now) (a .encoding) (a .pruning) (a .order .now) (a .table .now) in
+    (e .0 ∙ u .0, (e .1 .0 ∙ u .1, e .1 .1 ∙ u .2))
 
 pub beaconcrumb-decide-from-spec : {M : Type 1} → statement M
 beaconcrumb-decide-from-spec =
-    tie.close (tie.spec returns values-requires decide-requires same-length same-length-2 returns-2)
+    tie.close (tie.spec array-share-prefix-zeros slice-aggregate-none beaconcrumb-decide-strict-requires same-length same-length-2 returns)

@@ -7,7 +7,7 @@ use Rattle.checker.specs.Encodings.{encodeList}
 use Rattle.model.specs.Lent.{noConstraint}
 use Rattle.lender.proofs.Packs.{packed-long}
 use Rattle.lender.proofs.Within.{left-within}
-use Rattle.host.proofs.Writing.{encode-refused, out-short, out-written}
+use Rattle.codes.proofs.Writing.{encode-refused, out-short, out-written}
 use borrow.Author.Needs.{needs}
 use Rattle.host.proofs.encoded.Statement.{statement}
 use Rattle.host.proofs.encoded.Tie as tie

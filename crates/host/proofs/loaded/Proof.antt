@@ -1,6 +1,7 @@
 -- `host::loaded` meets its contract. Assumes nothing.
 use mathlib.Core.Path.{ap, _∙_}
-use Rattle.model.specs.Window.{fromZeros}
+use Rattle.model.specs.Times.{times}
+use Rattle.model.specs.Window.{window, zeros}
 use Rattle.checker.specs.Calls.{loading}
 use Rattle.lender.proofs.Fresh.{fresh-number, fresh-case}
 use borrow.Author.Needs.{needs}
@@ -21,7 +22,8 @@ load-requires c κs = search needs
 returns : tie.Need-returns
 unfolding loading
 returns c =
-    let w = fromZeros (c .before .before .before .before .args .log .now) in
+    let a = c .before .before .before .before .before .before .args in
+    let w = window (a .log .now) zeros (times (a .begin .now) (a .end .now) (a .drift)) in
     let fresh = c .before .before .fresh .ensures in
     (c .load .ensures .1 ∙ fresh-number _ w fresh, λ z. ap (λ r. r .case) (c .load .ensures .0) ∙ fresh-case _ w fresh z)
 

@@ -7,9 +7,9 @@ use lib.Seq.{length-take-le}
 use Rattle.model.specs.History.{isOrder}
 use Rattle.model.specs.Log.{transactionsIn}
 use Rattle.model.specs.Window.{window}
-use Rattle.host.specs.Codes.{orderedCase}
-use Rattle.host.proofs.Writing.{table-short}
-use Rattle.host.proofs.Deciding.{no-room, written}
+use Rattle.codes.specs.Codes.{orderedCase}
+use Rattle.codes.proofs.Writing.{table-short}
+use Rattle.codes.proofs.Deciding.{takes, no-room, written, each}
 use borrow.Author.Needs.{needs}
 use Rattle.host.proofs.write.Statement.{statement}
 use Rattle.host.proofs.write.Tie as tie
@@ -21,7 +21,7 @@ use Rattle.replay.proofs.tables.table.Reads as table-reads
 returns : tie.Need-returns
 returns c =
     let a = c .before .before .before .before .args in
-    table-short (orderedCase (window (a .log .now) (a .starting)) (a .t3)) (a .order .now) (a .table .now) (c .if1 .taken)
+    each (λ ts. each (λ z. table-short (orderedCase (window (a .log .now) (a .starting) ts) (a .t3)) (a .order .now) (a .table .now) (c .if1 .taken)))
 
 transactions-requires : tie.Need-transactions-requires
 transactions-requires c κs = search needs
@@ -29,7 +29,9 @@ transactions-requires c κs = search needs
 returns-2 : tie.Need-returns-2
 returns-2 c =
     let s = c .before .before .before .before .before .before in
-    no-room (window (s .args .log .now) (s .args .starting)) (s .pre .0) (s .args .t3) (s .pre .1) (s .args .order .now) (s .args .table .now) (c .before .before .if1 .left) _ (c .before .transactions .ensures .0) (c .if2 .taken)
+    let a = s .args in
+    let long : length (a .starting) ≡ 32 = search needs in
+    each (λ ts. each (λ z. no-room (window (a .log .now) (a .starting) ts) (takes (a .log .now) (a .starting) ts long z) (a .t3) (s .pre .1) (a .order .now) (a .table .now) (c .before .before .if1 .left) _ (c .before .transactions .ensures .0) (c .if2 .taken)))
 
 slice-aggregate-copy-bytes : tie.Need-slice-aggregate-copy-bytes
 slice-aggregate-copy-bytes c = search needs
@@ -62,8 +64,10 @@ same-length-2 c = search needs
 returns-3 : tie.Need-returns-3
 returns-3 c =
     let s = c .before .before .before .before .before .before .before .before .before .before .before .before .before .before .before .before .before .before in
-    written (window (s .args .log .now) (s .args .starting)) (s .pre .0) (s .args .t3) (s .pre .1) (s .args .order .now) (s .args .table .now) (c .before .before .before .before .before .before .before .before .before .before .before .before .before .before .if1 .left) _ (c .before .before .before .before .before .before .before .before .before .before .before .before .before .transactions .ensures .0) _ _ _
-    (c .before .before .before .before .before .before .before .before .before .before .before .before .if2 .left) (c .before .before .before .before .before .before .before .before .before .copy-bytes .ensures) (c .before .before .before .before .before .table .ensures) (c .before .before .put-values .ensures)
+    let a = s .args in
+    let long : length (a .starting) ≡ 32 = search needs in
+    each (λ ts. each (λ z. written (window (a .log .now) (a .starting) ts) (takes (a .log .now) (a .starting) ts long z) (a .t3) (s .pre .1) (a .order .now) (a .table .now) (c .before .before .before .before .before .before .before .before .before .before .before .before .before .before .if1 .left) _ (c .before .before .before .before .before .before .before .before .before .before .before .before .before .transactions .ensures .0) _ _ _
+    (c .before .before .before .before .before .before .before .before .before .before .before .before .if2 .left) (c .before .before .before .before .before .before .before .before .before .copy-bytes .ensures) (c .before .before .before .before .before .table .ensures) (c .before .before .put-values .ensures)))
 
 pub write-spec : {M : Type 1} → statement M
 write-spec =

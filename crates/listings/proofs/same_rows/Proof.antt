@@ -5,10 +5,10 @@ use Rattle.listings.proofs.same_rows.Statement.{statement}
 use Rattle.listings.proofs.same_rows.Tie as tie
 
 abbrev Inv-loop : tie.InvT-loop
-Inv-loop seen rows i₀ i = (i ≤ 40)
+Inv-loop further seen rows i₀ i = (i ≤ 40)
 
 abbrev μ-loop : tie.MeasureT-loop
-μ-loop seen rows i₀ i = 40 - i
+μ-loop further seen rows i₀ i = 40 - i
 
 loop-holds : tie.Need-loop-holds Inv-loop μ-loop
 loop-holds c = search needs

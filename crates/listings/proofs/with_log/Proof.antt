@@ -5,10 +5,10 @@ use Rattle.listings.proofs.with_log.Statement.{statement}
 use Rattle.listings.proofs.with_log.Tie as tie
 
 abbrev Inv-loop : tie.InvT-loop
-Inv-loop bytes length n mark log out₀ s₀ out s = (s ≤ 6)
+Inv-loop bytes length n clock mark log out₀ s₀ out s = (s ≤ 6)
 
 abbrev μ-loop : tie.MeasureT-loop
-μ-loop bytes length n mark log out₀ s₀ out s = 6 - s
+μ-loop bytes length n clock mark log out₀ s₀ out s = 6 - s
 
 returns : tie.Need-returns Inv-loop μ-loop
 returns c = search needs

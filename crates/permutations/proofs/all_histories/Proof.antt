@@ -1,17 +1,14 @@
 -- `permutations::all_histories` is safe and ends. Assumes nothing.
-use borrow.Author.Needs.{needs}
-use mathlib.Core.Path.{_≡_}
 use Prim.Native.Nat.{_≤_, _-_}
-use native.Mathlib.Omega.{arith}
-use lib.ListN.{length}
+use borrow.Author.Needs.{needs}
 use Rattle.permutations.proofs.all_histories.Statement.{statement}
 use Rattle.permutations.proofs.all_histories.Tie as tie
 
 abbrev Inv-loop : tie.InvT-loop
-Inv-loop n out₀ h₀ out h = (h ≤ n)
+Inv-loop n r out₀ h₀ out h = (h ≤ n)
 
 abbrev μ-loop : tie.MeasureT-loop
-μ-loop n out₀ h₀ out h = n - h
+μ-loop n r out₀ h₀ out h = n - h
 
 loop-holds : tie.Need-loop-holds Inv-loop μ-loop
 loop-holds c = search needs

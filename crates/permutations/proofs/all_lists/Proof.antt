@@ -1,17 +1,14 @@
 -- `permutations::all_lists` is safe and ends. Assumes nothing.
-use borrow.Author.Needs.{needs}
-use mathlib.Core.Path.{_≡_}
 use Prim.Native.Nat.{_≤_, _-_}
-use native.Mathlib.Omega.{arith}
-use lib.ListN.{length}
+use borrow.Author.Needs.{needs}
 use Rattle.permutations.proofs.all_lists.Statement.{statement}
 use Rattle.permutations.proofs.all_lists.Tie as tie
 
 abbrev Inv-loop : tie.InvT-loop
-Inv-loop h out₀ k₀ out k = (k ≤ 256)
+Inv-loop r h out₀ k₀ out k = (k ≤ 256)
 
 abbrev μ-loop : tie.MeasureT-loop
-μ-loop h out₀ k₀ out k = 256 - k
+μ-loop r h out₀ k₀ out k = 256 - k
 
 loop-holds : tie.Need-loop-holds Inv-loop μ-loop
 loop-holds c = search needs

@@ -1,17 +1,14 @@
 -- `permutations::log_of` is safe and ends. Assumes nothing.
-use borrow.Author.Needs.{needs}
-use mathlib.Core.Path.{_≡_}
 use Prim.Native.Nat.{_≤_, _-_}
-use native.Mathlib.Omega.{arith}
-use lib.ListN.{length}
+use borrow.Author.Needs.{needs}
 use Rattle.permutations.proofs.log_of.Statement.{statement}
 use Rattle.permutations.proofs.log_of.Tie as tie
 
 abbrev Inv-loop : tie.InvT-loop
-Inv-loop h out₀ i₀ out i = (i ≤ 68)
+Inv-loop h blind out₀ i₀ out i = (i ≤ 68)
 
 abbrev μ-loop : tie.MeasureT-loop
-μ-loop h out₀ i₀ out i = 68 - i
+μ-loop h blind out₀ i₀ out i = 68 - i
 
 loop-holds : tie.Need-loop-holds Inv-loop μ-loop
 loop-holds c = search needs

@@ -40,6 +40,9 @@ loop-less c = search needs
 loop-again : tie.Need-loop-again Inv-loop μ-loop
 loop-again c = search needs
 
+without-requires : tie.Need-without-requires Inv-loop μ-loop
+without-requires c κs = search needs
+
 returns : tie.Need-returns Inv-loop μ-loop
 returns c = search needs
 
@@ -59,4 +62,5 @@ empty-spec =
     add-t
     loop-less
     loop-again
+    without-requires
     returns)

@@ -1,6 +1,8 @@
 -- `answers::deciding::decided` meets its contract. Assumes nothing.
 use Rattle.answers.proofs.Answering.{setting-zero}
 use Rattle.answers.proofs.Finding.{setting-finds, places-finds, settled-in, answer-finds, rows-tidy}
+use Rattle.model.specs.Times.{times}
+use Rattle.model.proofs.Times.{timed-log}
 use mathlib.Core.Path.{sym, _∙_}
 use borrow.Author.Needs.{needs}
 use Rattle.answers.proofs.deciding.decided.Statement.{statement}
@@ -16,7 +18,7 @@ returns : tie.Need-returns
 returns c = setting-finds _ _ _ _ _ _ _ _ _ (c .before .if1 .taken) (c .before .before .setting-refusal .ensures) (c .refused .ensures)
 
 prepare-requires : tie.Need-prepare-requires
-prepare-requires c κs = let s = c .before .before .before .before .before in (s .pre .0, setting-zero (s .args .encoding) (s .args .pruning) (sym (c .before .before .before .setting-refusal .ensures) ∙ c .before .before .if1 .left), s .pre .1)
+prepare-requires c κs = let s = c .before .before .before .before .before .before .before in (s .pre .0, setting-zero (s .args .encoding) (s .args .pruning) (sym (c .before .before .before .setting-refusal .ensures) ∙ c .before .before .if1 .left), s .pre .1)
 
 places-refusal-requires : tie.Need-places-refusal-requires
 places-refusal-requires c κs = search needs
@@ -38,25 +40,25 @@ settle-requires c κs = c .before .before .before .before .before .before .befor
 
 first-settled-requires : tie.Need-first-settled-requires
 first-settled-requires c κs =
-    let s = c .before .before .before .before .before .before .before .before .before .before .before .before .before .before .before .before .before in
+    let s = c .before .before .before .before .before .before .before .before .before .before .before .before .before .before .before .before .before .before .before in
     let z = sym (c .before .before .before .before .before .before .before .before .before .before .before .before .before .before .before .setting-refusal .ensures) ∙ c .before .before .before .before .before .before .before .before .before .before .before .before .before .before .if1 .left in
     let p = c .before .before .before .before .before .before .before .before .before .before .before .prepare .ensures in
     let room = sym (c .before .before .before .before .before .before .before .before .before .before .places-refusal .ensures) ∙ c .before .before .before .before .before .before .before .before .before .if2 .left in
     let k = c .before .before .settle .ensures in
-    let kept = k .1 _ (c .before .before .before .before .before .before .before .closure .ensures) (rows-tidy (s .args .log .now) (s .pre .0) (s .args .encoding) _ (p .rows-are)) in
+    let kept = k .1 _ (c .before .before .before .before .before .before .before .closure .ensures) (rows-tidy (s .args .log .now) _ (s .pre .0) (s .args .encoding) _ (p .rows-are)) in
     let same = c .before .before .before .before .before .before .pruning-needed .ensures in
-    (s .pre .0, settled-in _ _ _ (s .args .places) _ _ same _ _ _ _ _ _ _ p z room (k .0) kept)
+    (timed-log _ _ (s .pre .0), (times (s .args .begin .now) (s .args .end .now) (s .args .drift), settled-in _ _ _ (s .args .places) _ _ same _ _ _ _ _ _ _ p z room (k .0) kept))
 
 returns-3 : tie.Need-returns-3
 returns-3 c =
-    let s = c .before .before .before .before .before .before .before .before .before .before .before .before .before .before .before .before .before .before .before in
+    let s = c .before .before .before .before .before .before .before .before .before .before .before .before .before .before .before .before .before .before .before .before .before in
     let z = sym (c .before .before .before .before .before .before .before .before .before .before .before .before .before .before .before .before .before .setting-refusal .ensures) ∙ c .before .before .before .before .before .before .before .before .before .before .before .before .before .before .before .before .if1 .left in
     let p = c .before .before .before .before .before .before .before .before .before .before .before .before .before .prepare .ensures in
     let room = sym (c .before .before .before .before .before .before .before .before .before .before .before .before .places-refusal .ensures) ∙ c .before .before .before .before .before .before .before .before .before .before .before .if2 .left in
     let k = c .before .before .before .before .settle .ensures in
-    let kept = k .1 _ (c .before .before .before .before .before .before .before .before .before .closure .ensures) (rows-tidy (s .args .log .now) (s .pre .0) (s .args .encoding) _ (p .rows-are)) in
+    let kept = k .1 _ (c .before .before .before .before .before .before .before .before .before .closure .ensures) (rows-tidy (s .args .log .now) _ (s .pre .0) (s .args .encoding) _ (p .rows-are)) in
     let same = c .before .before .before .before .before .before .before .before .pruning-needed .ensures in
-    answer-finds _ _ _ (s .args .places) _ _ same _ _ _ _ _ _ _ p z room (k .0) kept _ (c .before .first-settled .ensures)
+    answer-finds _ _ _ (s .args .places) _ _ same _ _ _ _ _ _ _ p z room (k .0) kept _ (c .before .first-settled .ensures (times (s .args .begin .now) (s .args .end .now) (s .args .drift)) (settled-in _ _ _ (s .args .places) _ _ same _ _ _ _ _ _ _ p z room (k .0) kept))
 
 pub decided-spec : {M : Type 1} → statement M
 decided-spec =

@@ -1,5 +1,5 @@
 -- `answers::stages::claims_order` meets its contract. Assumes nothing.
-use Rattle.answers.proofs.Holding.{log-loads, log-fits, claims-is}
+use Rattle.answers.proofs.Holding.{claims-is}
 use lib.Seq.{length-take-le}
 use mathlib.Core.Path.{sym}
 use native.Mathlib.Omega.{arith}
@@ -8,10 +8,10 @@ use Rattle.answers.proofs.stages.claims_order.Statement.{statement}
 use Rattle.answers.proofs.stages.claims_order.Tie as tie
 
 slice-aggregate-transactions : tie.Need-slice-aggregate-transactions
-slice-aggregate-transactions c = sym (length-take-le _ _ (log-fits _ _ (c .before .before .before .pre .0)))
+slice-aggregate-transactions c = sym (length-take-le _ _ (c .before .before .before .pre .0))
 
 transactions-requires : tie.Need-transactions-requires
-transactions-requires c κs = log-loads _ _ (c .before .before .before .pre .0)
+transactions-requires c κs = c .before .before .before .pre .1
 
 cast-is-order : tie.Need-cast-is-order
 cast-is-order c = search needs

@@ -1,5 +1,5 @@
 -- `answers::stages::counted_as` meets its contract. Assumes nothing.
-use Rattle.answers.proofs.Holding.{counted-is, counted-fresh, holds-true}
+use Rattle.answers.proofs.Holding.{counted-is, counted-fresh, holds-true, window-fits, log-loads}
 use Rattle.answers.specs.Stages.{counted}
 use Rattle.answers.specs.declared.Stage.the-variants.{Fresh, Loaded, Ordered, NoOrder}
 use mathlib.Core.Bool.{true, false}
@@ -16,12 +16,12 @@ returns : tie.Need-returns
 unfolding counted
 returns c = counted-is _ Fresh _ _ _ _ (c .enum-told .given .1) refl refl
 
-holds-log-requires : tie.Need-holds-log-requires
-holds-log-requires c κs = search needs
+holds-window-requires : tie.Need-holds-window-requires
+holds-window-requires c κs = search needs
 
 returns-2 : tie.Need-returns-2
 returns-2 c =
-    sym (counted-fresh _ _) ∙ counted-is _ _ _ false _ _ refl (sym (c .before .holds-log .ensures) ∙ not-true _ (c .if1 .taken)) refl
+    sym (counted-fresh _ _) ∙ counted-is _ _ _ false _ _ refl (sym (c .before .holds-window .ensures) ∙ not-true _ (c .if1 .taken)) refl
 
 enum-told-2 : tie.Need-enum-told-2
 enum-told-2 c = search needs
@@ -33,7 +33,9 @@ enum-told-4 : tie.Need-enum-told-4
 enum-told-4 c = search needs
 
 claims-order-requires : tie.Need-claims-order-requires
-claims-order-requires c κs = (holds-true _ (sym (c .before .before .before .holds-log .ensures) ∙ not-false _ (c .before .before .if1 .left)), search needs)
+claims-order-requires c κs =
+    let held = holds-true _ (sym (c .before .before .before .holds-window .ensures) ∙ not-false _ (c .before .before .if1 .left)) in
+    (window-fits _ _ _ held, log-loads _ _ _ held, search needs)
 
 enum-told-5 : tie.Need-enum-told-5
 enum-told-5 c = search needs
@@ -45,22 +47,22 @@ returns-3 c = counted-is _ Fresh _ _ _ _ (c .enum-told2 .given .1) refl refl
 returns-4 : tie.Need-returns-4
 unfolding counted
 returns-4 c =
-    counted-is _ Loaded _ true _ _ (c .enum-told3 .given .1) (sym (c .before .before .before .holds-log .ensures) ∙ not-false _ (c .before .before .if1 .left)) refl
+    counted-is _ Loaded _ true _ _ (c .enum-told3 .given .1) (sym (c .before .before .before .holds-window .ensures) ∙ not-false _ (c .before .before .if1 .left)) refl
 
 returns-5 : tie.Need-returns-5
 unfolding counted
 returns-5 c =
-    counted-is _ Ordered _ true _ true (c .before .before .enum-told4 .given .1) (sym (c .before .before .before .before .before .holds-log .ensures) ∙ not-false _ (c .before .before .before .before .if1 .left)) (sym (c .before .claims-order .ensures) ∙ c .if2 .taken)
+    counted-is _ Ordered _ true _ true (c .before .before .enum-told4 .given .1) (sym (c .before .before .before .before .before .holds-window .ensures) ∙ not-false _ (c .before .before .before .before .if1 .left)) (sym (c .before .claims-order .ensures) ∙ c .if2 .taken)
 
 returns-6 : tie.Need-returns-6
 unfolding counted
 returns-6 c =
-    counted-is _ Ordered _ true _ false (c .before .before .enum-told4 .given .1) (sym (c .before .before .before .before .before .holds-log .ensures) ∙ not-false _ (c .before .before .before .before .if1 .left)) (sym (c .before .claims-order .ensures) ∙ c .if2 .left)
+    counted-is _ Ordered _ true _ false (c .before .before .enum-told4 .given .1) (sym (c .before .before .before .before .before .holds-window .ensures) ∙ not-false _ (c .before .before .before .before .if1 .left)) (sym (c .before .claims-order .ensures) ∙ c .if2 .left)
 
 returns-7 : tie.Need-returns-7
 unfolding counted
 returns-7 c =
-    counted-is _ NoOrder _ true _ _ (c .enum-told5 .given .1) (sym (c .before .before .before .holds-log .ensures) ∙ not-false _ (c .before .before .if1 .left)) refl
+    counted-is _ NoOrder _ true _ _ (c .enum-told5 .given .1) (sym (c .before .before .before .holds-window .ensures) ∙ not-false _ (c .before .before .if1 .left)) refl
 
 pub counted-as-spec : {M : Type 1} → statement M
 counted-as-spec =
@@ -68,7 +70,7 @@ counted-as-spec =
     (tie.spec
     enum-told
     returns
-    holds-log-requires
+    holds-window-requires
     returns-2
     enum-told-2
     enum-told-3

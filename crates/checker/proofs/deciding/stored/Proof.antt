@@ -11,7 +11,7 @@ stage-by-requires : tie.Need-stage-by-requires
 stage-by-requires c κs = search needs
 
 returns-2 : tie.Need-returns-2
-returns-2 c = let a = c .before .before .before .before .args in stored-found (a .c) (a .number) (a .found) (a .order) _ (c .stage-by .ensures) (c .before .before .before .if1 .left)
+returns-2 c = let a = c .before .before .before .before .before .args in stored-found (a .c) (a .number) (a .found) (a .order) _ (c .stage-by .ensures) (c .before .before .before .before .if1 .left)
 
 pub stored-spec : {M : Type 1} → statement M
 stored-spec = tie.close (tie.spec returns stage-by-requires returns-2)

@@ -13,10 +13,10 @@ number-requires c κs = search needs
 
 returns : tie.Need-returns
 returns c =
-    c .number .ensures ∙ sym (refusal-fresh (c .before .before .before .before .before .args .c) _ (sym (c .before .before .is-fresh .ensures) ∙ c .before .if1 .taken))
+    c .number .ensures ∙ sym (refusal-fresh (c .before .before .before .before .before .before .before .args .c) _ (sym (c .before .before .is-fresh .ensures) ∙ c .before .if1 .taken))
 
 returns-2 : tie.Need-returns-2
-returns-2 c = sym (refusal-other (c .before .before .before .before .args .c) _ (sym (c .before .is-fresh .ensures) ∙ c .if1 .left))
+returns-2 c = sym (refusal-other (c .before .before .before .before .before .before .args .c) _ (sym (c .before .is-fresh .ensures) ∙ c .if1 .left))
 
 pub load-refusal-spec : {M : Type 1} → statement M
 load-refusal-spec = tie.close (tie.spec is-fresh-requires number-requires returns returns-2)

@@ -15,7 +15,7 @@ slice-aggregate-counted-as-2 c = search needs
 
 counted-as-requires : tie.Need-counted-as-requires
 counted-as-requires c κs =
-    let long : length (c .before .before .before .before .args .c .order) ≡ 32 = search needs in
+    let long : length (c .before .before .before .before .before .args .c .order) ≡ 32 = search needs in
     omega arith
 
 returns : tie.Need-returns

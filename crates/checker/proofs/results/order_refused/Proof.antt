@@ -1,7 +1,7 @@
 -- `checker::results::order_refused` meets its contract. Assumes nothing.
 use Rattle.checker.proofs.Writing.{order-fresh, order-number}
 use Rattle.checker.proofs.Holding.{case-holds, case-loads}
-use Rattle.answers.proofs.Holding.{log-fits}
+use Rattle.answers.proofs.Holding.{window-fits}
 use Rattle.answers.specs.Stages.{isFresh}
 use lib.Seq.{length-take-le}
 use mathlib.Core.Path.{sym, ap, _∙_}
@@ -21,11 +21,11 @@ returns c =
 
 array-share-prefix-bytes : tie.Need-array-share-prefix-bytes
 array-share-prefix-bytes c =
-    log-fits _ _ (case-holds (c .before .before .before .before .args .c) (sym (ap isFresh (c .before .before .before .stage-of .ensures)) ∙ sym (c .before .before .is-fresh-stage .ensures) ∙ c .before .if1 .left))
+    window-fits _ _ _ (case-holds (c .before .before .before .before .args .c) (sym (ap isFresh (c .before .before .before .stage-of .ensures)) ∙ sym (c .before .before .is-fresh-stage .ensures) ∙ c .before .if1 .left))
 
 slice-aggregate-transactions : tie.Need-slice-aggregate-transactions
 slice-aggregate-transactions c =
-    sym (length-take-le _ _ (log-fits _ _ (case-holds (c .before .before .before .before .before .args .c) (sym (ap isFresh (c .before .before .before .before .stage-of .ensures)) ∙ sym (c .before .before .before .is-fresh-stage .ensures) ∙ c .before .before .if1 .left))))
+    sym (length-take-le _ _ (window-fits _ _ _ (case-holds (c .before .before .before .before .before .args .c) (sym (ap isFresh (c .before .before .before .before .stage-of .ensures)) ∙ sym (c .before .before .before .is-fresh-stage .ensures) ∙ c .before .before .if1 .left))))
 
 transactions-requires : tie.Need-transactions-requires
 transactions-requires c κs =

@@ -1,6 +1,6 @@
 -- `checker::results::write_order` meets its contract. Assumes nothing.
 use Rattle.checker.proofs.Writing.{order-stage, order-room, ordered-holds, order-written}
-use Rattle.answers.proofs.Holding.{log-fits, log-loads}
+use Rattle.answers.proofs.Holding.{window-fits, log-loads}
 use lib.Seq.{length-take-le}
 use lib.ListN.{length}
 use mathlib.Core.Path.{_≡_, sym}
@@ -11,15 +11,15 @@ use Rattle.checker.proofs.results.write_order.Tie as tie
 
 array-share-prefix-bytes : tie.Need-array-share-prefix-bytes
 array-share-prefix-bytes c =
-    log-fits _ _ (ordered-holds (c .before .before .before .args .c) (order-stage (c .before .before .before .args .c) _ (c .before .before .before .pre)))
+    window-fits _ _ _ (ordered-holds (c .before .before .before .args .c) (order-stage (c .before .before .before .args .c) _ (c .before .before .before .pre)))
 
 slice-aggregate-transactions : tie.Need-slice-aggregate-transactions
 slice-aggregate-transactions c =
-    sym (length-take-le _ _ (log-fits _ _ (ordered-holds (c .before .before .before .before .args .c) (order-stage (c .before .before .before .before .args .c) _ (c .before .before .before .before .pre)))))
+    sym (length-take-le _ _ (window-fits _ _ _ (ordered-holds (c .before .before .before .before .args .c) (order-stage (c .before .before .before .before .args .c) _ (c .before .before .before .before .pre)))))
 
 transactions-requires : tie.Need-transactions-requires
 transactions-requires c κs =
-    log-loads _ _ (ordered-holds (c .before .before .before .before .args .c) (order-stage (c .before .before .before .before .args .c) _ (c .before .before .before .before .pre)))
+    log-loads _ _ _ (ordered-holds (c .before .before .before .before .args .c) (order-stage (c .before .before .before .before .args .c) _ (c .before .before .before .before .pre)))
 
 slice-aggregate-copy-bytes : tie.Need-slice-aggregate-copy-bytes
 slice-aggregate-copy-bytes c = search needs

@@ -1,6 +1,6 @@
 -- `checker::results::write_table` meets its contract. Assumes nothing.
 use Rattle.checker.proofs.Writing.{table-stage, table-room, ordered-holds, ordered-order, table-written}
-use Rattle.answers.proofs.Holding.{log-fits, log-loads}
+use Rattle.answers.proofs.Holding.{window-fits, log-loads}
 use Rattle.checker.specs.Cases.{contents}
 use Rattle.model.specs.Log.{transactionsIn}
 use Rattle.model.specs.History.{isOrder}
@@ -15,23 +15,23 @@ use Rattle.checker.proofs.results.write_table.Tie as tie
 
 array-share-prefix-bytes : tie.Need-array-share-prefix-bytes
 array-share-prefix-bytes c =
-    log-fits _ _ (ordered-holds (c .before .before .before .before .args .c) (table-stage (c .before .before .before .before .args .c) _ (c .before .before .before .before .pre)))
+    window-fits _ _ _ (ordered-holds (c .before .before .before .before .args .c) (table-stage (c .before .before .before .before .args .c) _ (c .before .before .before .before .pre)))
 
 slice-aggregate-transactions : tie.Need-slice-aggregate-transactions
 slice-aggregate-transactions c =
-    sym (length-take-le _ _ (log-fits _ _ (ordered-holds (c .before .before .before .before .before .args .c) (table-stage (c .before .before .before .before .before .args .c) _ (c .before .before .before .before .before .pre)))))
+    sym (length-take-le _ _ (window-fits _ _ _ (ordered-holds (c .before .before .before .before .before .args .c) (table-stage (c .before .before .before .before .before .args .c) _ (c .before .before .before .before .before .pre)))))
 
 transactions-requires : tie.Need-transactions-requires
 transactions-requires c κs =
-    log-loads _ _ (ordered-holds (c .before .before .before .before .before .args .c) (table-stage (c .before .before .before .before .before .args .c) _ (c .before .before .before .before .before .pre)))
+    log-loads _ _ _ (ordered-holds (c .before .before .before .before .before .args .c) (table-stage (c .before .before .before .before .before .args .c) _ (c .before .before .before .before .before .pre)))
 
 array-share-prefix-bytes-2 : tie.Need-array-share-prefix-bytes-2
 array-share-prefix-bytes-2 c =
-    log-fits _ _ (ordered-holds (c .before .before .before .before .before .before .args .c) (table-stage (c .before .before .before .before .before .before .args .c) _ (c .before .before .before .before .before .before .pre)))
+    window-fits _ _ _ (ordered-holds (c .before .before .before .before .before .before .args .c) (table-stage (c .before .before .before .before .before .before .args .c) _ (c .before .before .before .before .before .before .pre)))
 
 slice-aggregate-write-table : tie.Need-slice-aggregate-write-table
 slice-aggregate-write-table c =
-    sym (length-take-le _ _ (log-fits _ _ (ordered-holds (c .before .before .before .before .before .before .before .args .c) (table-stage (c .before .before .before .before .before .before .before .args .c) _ (c .before .before .before .before .before .before .before .pre)))))
+    sym (length-take-le _ _ (window-fits _ _ _ (ordered-holds (c .before .before .before .before .before .before .before .args .c) (table-stage (c .before .before .before .before .before .before .before .args .c) _ (c .before .before .before .before .before .before .before .pre)))))
 
 array-share-prefix-order : tie.Need-array-share-prefix-order
 array-share-prefix-order c =
@@ -47,7 +47,7 @@ write-table-requires : tie.Need-write-table-requires
 write-table-requires c κs =
     let s = c .before .before .before .before .before .before .before .before .before in
     let stage = table-stage (s .args .c) _ (s .pre) in (
-      log-loads _ _ (ordered-holds (s .args .c) stage),
+      log-loads _ _ _ (ordered-holds (s .args .c) stage),
       subst (λ n. T (isOrder (transactionsIn (contents (s .args .c))) (take n (s .args .c .order)))) (sym (c .before .before .before .transactions .ensures .0)) (ordered-order (s .args .c) stage),
       table-room (s .args .c) _ (s .pre),
     )

@@ -1,6 +1,6 @@
 -- `host::images::put_constraint` meets its contract. Assumes nothing.
-use Rattle.host.proofs.Filling.{word-long, constraint-long}
-use Rattle.host.specs.Images.{wordBytes, constraintBytes}
+use Rattle.codes.proofs.Filling.{word-long, constraint-long}
+use Rattle.codes.specs.Images.{wordBytes, constraintBytes}
 use Prim.Native.Nat.{_+_, _%_}
 use lib.ListN.{length, set, length-set}
 use mathlib.Core.Path.{ap, _∙_}

@@ -1,6 +1,6 @@
 -- `host::images::put_constraints` meets its contract. Assumes nothing.
-use Rattle.host.proofs.Filling.{filled-none, filled-next, words-long}
-use Rattle.host.specs.Images.{filled, constraintBytes, wordsIn}
+use Rattle.codes.proofs.Filling.{filled-none, filled-next, words-long}
+use Rattle.codes.specs.Images.{filled, constraintBytes, wordsIn}
 use Prim.Native.Nat.{_+_, _*_, _≤_, _-_}
 use lib.ListN.{length}
 use mathlib.Core.Path.{_≡_, ap, _∙_}

@@ -2,7 +2,7 @@
 use native.Mathlib.Omega.{arith}
 use Prim.Native.Nat.{_%_}
 use lib.ListN.{length-set}
-use Rattle.host.specs.Images.{pairBytes}
+use Rattle.codes.specs.Images.{pairBytes}
 use borrow.Author.Needs.{needs}
 use Rattle.host.proofs.images.put_pair.Statement.{statement}
 use Rattle.host.proofs.images.put_pair.Tie as tie

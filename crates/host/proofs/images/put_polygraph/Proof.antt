@@ -1,5 +1,5 @@
 -- `host::images::put_polygraph` meets its contract. Assumes nothing.
-use Rattle.host.specs.Images.{filled, rowIn, wordsIn}
+use Rattle.codes.specs.Images.{filled, rowIn, wordsIn}
 use mathlib.Core.Path.{ap, _∙_}
 use borrow.Author.Needs.{needs}
 use Rattle.host.proofs.images.put_polygraph.Statement.{statement}

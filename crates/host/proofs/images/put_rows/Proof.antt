@@ -1,6 +1,6 @@
 -- `host::images::put_rows` meets its contract. Assumes nothing.
-use Rattle.host.proofs.Filling.{filled-none, filled-next, rows-long}
-use Rattle.host.specs.Images.{filled, rowIn}
+use Rattle.codes.proofs.Filling.{filled-none, filled-next, rows-long}
+use Rattle.codes.specs.Images.{filled, rowIn}
 use Prim.Native.Nat.{_≤_, _-_}
 use lib.ListN.{length}
 use mathlib.Core.Path.{_≡_, ap, _∙_}

@@ -1,6 +1,6 @@
 -- `host::images::put_values` meets its contract. Assumes nothing.
-use Rattle.host.proofs.Filling.{filled-none, filled-next, values-long}
-use Rattle.host.specs.Images.{filled, valueIn}
+use Rattle.codes.proofs.Filling.{filled-none, filled-next, values-long}
+use Rattle.codes.specs.Images.{filled, valueIn}
 use Prim.Native.Nat.{ℕ, _≤_, _-_}
 use lib.ListN.{length}
 use mathlib.Core.Path.{_≡_, ap, _∙_}

@@ -2,7 +2,7 @@
 use native.Mathlib.Omega.{arith}
 use Prim.Native.Nat.{_+_, _/_, _%_}
 use lib.ListN.{set, length-set}
-use Rattle.host.specs.Images.{wordBytes}
+use Rattle.codes.specs.Images.{wordBytes}
 use borrow.Author.Needs.{needs}
 use Rattle.host.proofs.images.put_word.Statement.{statement}
 use Rattle.host.proofs.images.put_word.Tie as tie

@@ -1,7 +1,7 @@
 -- `host::images::values` meets its contract. Assumes nothing.
 use Rattle.graph.proofs.WordLaws.{Filled, filled-start, filled-next, filled-end}
 use Rattle.model.specs.Log.{pairAt}
-use Rattle.host.specs.Images.{valuesIn}
+use Rattle.codes.specs.Images.{valuesIn}
 use Prim.Native.Nat.{_≤_, _-_, _*_}
 use lib.ListN.{length}
 use mathlib.Core.Path.{_≡_}

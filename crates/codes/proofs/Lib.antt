@@ -1,0 +1,10 @@
+pub mod Filling
+pub mod Taking
+pub mod Timing
+pub mod Writing
+pub mod Deciding
+pub mod Starting
+pub mod Strict
+pub mod Bytes
+pub mod Room
+pub mod Demands
