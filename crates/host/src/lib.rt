@@ -28,8 +28,6 @@ use checker::Judgement;
 use listing::PLACES;
 use listing::WORDS;
 
-mod images;
-
 // The words of 4,096 constraints, four each.
 const LIST_WORDS: usize = 16384;
 

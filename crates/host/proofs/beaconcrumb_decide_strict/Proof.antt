@@ -9,8 +9,8 @@ use borrow.Author.Needs.{needs}
 use Rattle.host.proofs.beaconcrumb_decide_strict.Statement.{statement}
 use Rattle.host.proofs.beaconcrumb_decide_strict.Tie as tie
 use Rattle.host.proofs.decide.Reads as decide-reads
-use Rattle.host.proofs.images.seconds.Reads as seconds-reads
-use Rattle.host.proofs.images.values.Reads as values-reads
+use Rattle.images.proofs.seconds.Reads as seconds-reads
+use Rattle.images.proofs.values.Reads as values-reads
 use Rattle.host.proofs.lengths_refused.Reads as lengths-refused-reads
 
 returns : tie.Need-returns

@@ -11,7 +11,7 @@ use borrow.Author.Needs.{needs}
 use Rattle.host.proofs.beaconcrumb_encode_strict.Statement.{statement}
 use Rattle.host.proofs.beaconcrumb_encode_strict.Tie as tie
 use Rattle.host.proofs.encode.Reads as encode-reads
-use Rattle.host.proofs.images.seconds.Reads as seconds-reads
+use Rattle.images.proofs.seconds.Reads as seconds-reads
 use Rattle.host.proofs.lengths_refused.Reads as lengths-refused-reads
 
 lengths-refused-requires : tie.Need-lengths-refused-requires

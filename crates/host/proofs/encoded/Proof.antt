@@ -11,7 +11,7 @@ use Rattle.codes.proofs.Writing.{encode-refused, out-short, out-written}
 use borrow.Author.Needs.{needs}
 use Rattle.host.proofs.encoded.Statement.{statement}
 use Rattle.host.proofs.encoded.Tie as tie
-use Rattle.host.proofs.images.put_polygraph.Reads as put-polygraph-reads
+use Rattle.images.proofs.put_polygraph.Reads as put-polygraph-reads
 use Rattle.answers.proofs.Reply.number.Reads as number-reads
 use Rattle.lender.proofs.encode.Reads as encode-reads
 

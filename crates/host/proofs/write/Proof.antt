@@ -14,7 +14,7 @@ use borrow.Author.Needs.{needs}
 use Rattle.host.proofs.write.Statement.{statement}
 use Rattle.host.proofs.write.Tie as tie
 use Rattle.answers.proofs.copies.copy_bytes.Reads as copy-bytes-reads
-use Rattle.host.proofs.images.put_values.Reads as put-values-reads
+use Rattle.images.proofs.put_values.Reads as put-values-reads
 use Rattle.log.proofs.transactions.Reads as transactions-reads
 use Rattle.replay.proofs.tables.table.Reads as table-reads
 

@@ -1,4 +1,4 @@
--- `host::images::put_constraints` meets its contract. Assumes nothing.
+-- `images::put_constraints` meets its contract. Assumes nothing.
 use Rattle.codes.proofs.Filling.{filled-none, filled-next, words-long}
 use Rattle.codes.specs.Images.{filled, constraintBytes, wordsIn}
 use Prim.Native.Nat.{_+_, _*_, _≤_, _-_}
@@ -6,10 +6,10 @@ use lib.ListN.{length}
 use mathlib.Core.Path.{_≡_, ap, _∙_}
 use native.Mathlib.Omega.{arith}
 use borrow.Author.Needs.{needs}
-use Rattle.host.proofs.images.put_constraints.Statement.{statement}
-use Rattle.host.proofs.images.put_constraints.Tie as tie
+use Rattle.images.proofs.put_constraints.Statement.{statement}
+use Rattle.images.proofs.put_constraints.Tie as tie
 use Rattle.search.proofs.constraint_at.Reads as constraint-at-reads
-use Rattle.host.proofs.images.put_constraint.Reads as put-constraint-reads
+use Rattle.images.proofs.put_constraint.Reads as put-constraint-reads
 
 abbrev Inv-loop : tie.InvT-loop
 Inv-loop words n out₀ i₀ out i = (i ≤ n) × (out ≡ filled (wordsIn words) i out₀)

@@ -1,11 +1,11 @@
--- `host::images::put_word` meets its contract. Assumes nothing.
+-- `images::put_word` meets its contract. Assumes nothing.
 use native.Mathlib.Omega.{arith}
 use Prim.Native.Nat.{_+_, _/_, _%_}
 use lib.ListN.{set, length-set}
 use Rattle.codes.specs.Images.{wordBytes}
 use borrow.Author.Needs.{needs}
-use Rattle.host.proofs.images.put_word.Statement.{statement}
-use Rattle.host.proofs.images.put_word.Tie as tie
+use Rattle.images.proofs.put_word.Statement.{statement}
+use Rattle.images.proofs.put_word.Tie as tie
 
 cast-out : tie.Need-cast-out
 cast-out c = search needs

@@ -26,7 +26,7 @@ fn put_word(v: u32, at: usize, out: &mut [u8])
 }
 
 // The 32 values of a table.
-pub(crate) fn put_values(values: &[u16; 32], out: &mut [u8])
+pub fn put_values(values: &[u16; 32], out: &mut [u8])
     requires { ⌜ 64 ≤ length (now out) ⌝ }
     ensures { λ _. ⌜ now (out .exit) ≡ filled (valueIn (now (values .entry))) 32 (now (out .entry)) ⌝ }
 {
@@ -38,7 +38,7 @@ pub(crate) fn put_values(values: &[u16; 32], out: &mut [u8])
 }
 
 // The 32 values that 64 bytes hold.
-pub(crate) fn values(bytes: &[u8]) -> [u16; 32]
+pub fn values(bytes: &[u8]) -> [u16; 32]
     requires { ⌜ length (now bytes) ≡ 64 ⌝ }
     ensures { λ r. ⌜ r ≡ valuesIn (now (bytes .entry)) ⌝ }
 {
@@ -62,7 +62,7 @@ fn word(bytes: &[u8], at: usize) -> u32
 }
 
 // The seconds that at most 128 bytes hold, four bytes each. Behind them are zeros.
-pub(crate) fn seconds(bytes: &[u8]) -> [u32; 32]
+pub fn seconds(bytes: &[u8]) -> [u32; 32]
     requires { ⌜ length (now bytes) ≤ 128 ⌝ }
     ensures { λ r. ⌜ take (length (now (bytes .entry)) / 4) r ≡ secondsIn (now (bytes .entry)) ⌝ }
 {
@@ -113,7 +113,7 @@ fn put_constraints(words: &[u32], n: usize, out: &mut [u8])
 }
 
 // The polygraph: the count left, the row words, and the constraints left.
-pub(crate) fn put_polygraph(left: usize, rows: &[u32; 32], words: &[u32], out: &mut [u8])
+pub fn put_polygraph(left: usize, rows: &[u32; 32], words: &[u32], out: &mut [u8])
     requires { ⌜ (left ≤ 4096) × (4 * left ≤ length (now words)) × (130 + 10 * left ≤ length (now out)) ⌝ }
     ensures { λ _. ⌜ now (out .exit) ≡ filled (wordsIn (now (words .entry))) left (filled (rowIn (now (rows .entry))) 32 (pairBytes 0 left (now (out .entry)))) ⌝ }
 {

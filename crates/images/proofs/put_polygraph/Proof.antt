@@ -1,12 +1,12 @@
--- `host::images::put_polygraph` meets its contract. Assumes nothing.
+-- `images::put_polygraph` meets its contract. Assumes nothing.
 use Rattle.codes.specs.Images.{filled, rowIn, wordsIn}
 use mathlib.Core.Path.{ap, _∙_}
 use borrow.Author.Needs.{needs}
-use Rattle.host.proofs.images.put_polygraph.Statement.{statement}
-use Rattle.host.proofs.images.put_polygraph.Tie as tie
-use Rattle.host.proofs.images.put_constraints.Reads as put-constraints-reads
-use Rattle.host.proofs.images.put_pair.Reads as put-pair-reads
-use Rattle.host.proofs.images.put_rows.Reads as put-rows-reads
+use Rattle.images.proofs.put_polygraph.Statement.{statement}
+use Rattle.images.proofs.put_polygraph.Tie as tie
+use Rattle.images.proofs.put_constraints.Reads as put-constraints-reads
+use Rattle.images.proofs.put_pair.Reads as put-pair-reads
+use Rattle.images.proofs.put_rows.Reads as put-rows-reads
 
 cast-put-pair : tie.Need-cast-put-pair
 cast-put-pair c = search needs

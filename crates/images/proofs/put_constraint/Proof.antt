@@ -1,4 +1,4 @@
--- `host::images::put_constraint` meets its contract. Assumes nothing.
+-- `images::put_constraint` meets its contract. Assumes nothing.
 use Rattle.codes.proofs.Filling.{word-long, constraint-long}
 use Rattle.codes.specs.Images.{wordBytes, constraintBytes}
 use Prim.Native.Nat.{_+_, _%_}
@@ -6,9 +6,9 @@ use lib.ListN.{length, set, length-set}
 use mathlib.Core.Path.{ap, _∙_}
 use native.Mathlib.Omega.{arith}
 use borrow.Author.Needs.{needs}
-use Rattle.host.proofs.images.put_constraint.Statement.{statement}
-use Rattle.host.proofs.images.put_constraint.Tie as tie
-use Rattle.host.proofs.images.put_word.Reads as put-word-reads
+use Rattle.images.proofs.put_constraint.Statement.{statement}
+use Rattle.images.proofs.put_constraint.Tie as tie
+use Rattle.images.proofs.put_word.Reads as put-word-reads
 
 put-word-requires : tie.Need-put-word-requires
 put-word-requires c κs = search needs

@@ -1,4 +1,4 @@
--- `host::images::values` meets its contract. Assumes nothing.
+-- `images::values` meets its contract. Assumes nothing.
 use Rattle.graph.proofs.WordLaws.{Filled, filled-start, filled-next, filled-end}
 use Rattle.model.specs.Log.{pairAt}
 use Rattle.codes.specs.Images.{valuesIn}
@@ -7,8 +7,8 @@ use lib.ListN.{length}
 use mathlib.Core.Path.{_≡_}
 use native.Mathlib.Omega.{arith}
 use borrow.Author.Needs.{needs}
-use Rattle.host.proofs.images.values.Statement.{statement}
-use Rattle.host.proofs.images.values.Tie as tie
+use Rattle.images.proofs.values.Statement.{statement}
+use Rattle.images.proofs.values.Tie as tie
 
 abbrev Inv-loop : tie.InvT-loop
 Inv-loop bytes out₀ i₀ out i = (i ≤ 32) × Filled 32 (λ j. pairAt bytes (2 * j)) i out

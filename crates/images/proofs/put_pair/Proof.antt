@@ -1,11 +1,11 @@
--- `host::images::put_pair` meets its contract. Assumes nothing.
+-- `images::put_pair` meets its contract. Assumes nothing.
 use native.Mathlib.Omega.{arith}
 use Prim.Native.Nat.{_%_}
 use lib.ListN.{length-set}
 use Rattle.codes.specs.Images.{pairBytes}
 use borrow.Author.Needs.{needs}
-use Rattle.host.proofs.images.put_pair.Statement.{statement}
-use Rattle.host.proofs.images.put_pair.Tie as tie
+use Rattle.images.proofs.put_pair.Statement.{statement}
+use Rattle.images.proofs.put_pair.Tie as tie
 
 cast-out : tie.Need-cast-out
 cast-out c = search needs

@@ -1,12 +1,12 @@
--- `host::images::word` meets its contract. Assumes nothing.
+-- `images::word` meets its contract. Assumes nothing.
 use native.Mathlib.Omega.{arith}
 use Prim.Native.Nat.{_+_}
 use mathlib.Core.Path.{_≡_, ap}
 use Rattle.model.specs.Log.{byteAt, pairAt}
 use Rattle.codes.specs.Images.{wordAt}
 use borrow.Author.Needs.{needs}
-use Rattle.host.proofs.images.word.Statement.{statement}
-use Rattle.host.proofs.images.word.Tie as tie
+use Rattle.images.proofs.word.Statement.{statement}
+use Rattle.images.proofs.word.Tie as tie
 
 pair-requires : tie.Need-pair-requires
 pair-requires c κs = search needs

@@ -1,4 +1,4 @@
--- `host::images::put_values` meets its contract. Assumes nothing.
+-- `images::put_values` meets its contract. Assumes nothing.
 use Rattle.codes.proofs.Filling.{filled-none, filled-next, values-long}
 use Rattle.codes.specs.Images.{filled, valueIn}
 use Prim.Native.Nat.{ℕ, _≤_, _-_}
@@ -6,9 +6,9 @@ use lib.ListN.{length}
 use mathlib.Core.Path.{_≡_, ap, _∙_}
 use native.Mathlib.Omega.{arith}
 use borrow.Author.Needs.{needs}
-use Rattle.host.proofs.images.put_values.Statement.{statement}
-use Rattle.host.proofs.images.put_values.Tie as tie
-use Rattle.host.proofs.images.put_pair.Reads as put-pair-reads
+use Rattle.images.proofs.put_values.Statement.{statement}
+use Rattle.images.proofs.put_values.Tie as tie
+use Rattle.images.proofs.put_pair.Reads as put-pair-reads
 
 abbrev Inv-loop : tie.InvT-loop
 Inv-loop values out₀ i₀ out i = (i ≤ 32) × (out ≡ filled (valueIn values) i out₀)

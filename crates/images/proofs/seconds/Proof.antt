@@ -1,4 +1,4 @@
--- `host::images::seconds` meets its contract. Assumes nothing.
+-- `images::seconds` meets its contract. Assumes nothing.
 use Rattle.graph.proofs.WordLaws.{Filled, filled-start, filled-next}
 use Rattle.codes.specs.Images.{wordAt, secondsIn}
 use Rattle.codes.proofs.Filling.{filled-first}
@@ -9,8 +9,8 @@ use mathlib.Core.List.{map}
 use Rattle.model.specs.Lists.{upTo}
 use native.Mathlib.Omega.{arith}
 use borrow.Author.Needs.{needs}
-use Rattle.host.proofs.images.seconds.Statement.{statement}
-use Rattle.host.proofs.images.seconds.Tie as tie
+use Rattle.images.proofs.seconds.Statement.{statement}
+use Rattle.images.proofs.seconds.Tie as tie
 
 abbrev Inv-loop : tie.InvT-loop
 Inv-loop bytes out₀ n i₀ out i = (i ≤ n) × Filled 32 (λ j. wordAt bytes (4 * j)) i out

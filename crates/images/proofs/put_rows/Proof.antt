@@ -1,4 +1,4 @@
--- `host::images::put_rows` meets its contract. Assumes nothing.
+-- `images::put_rows` meets its contract. Assumes nothing.
 use Rattle.codes.proofs.Filling.{filled-none, filled-next, rows-long}
 use Rattle.codes.specs.Images.{filled, rowIn}
 use Prim.Native.Nat.{_≤_, _-_}
@@ -6,9 +6,9 @@ use lib.ListN.{length}
 use mathlib.Core.Path.{_≡_, ap, _∙_}
 use native.Mathlib.Omega.{arith}
 use borrow.Author.Needs.{needs}
-use Rattle.host.proofs.images.put_rows.Statement.{statement}
-use Rattle.host.proofs.images.put_rows.Tie as tie
-use Rattle.host.proofs.images.put_word.Reads as put-word-reads
+use Rattle.images.proofs.put_rows.Statement.{statement}
+use Rattle.images.proofs.put_rows.Tie as tie
+use Rattle.images.proofs.put_word.Reads as put-word-reads
 
 abbrev Inv-loop : tie.InvT-loop
 Inv-loop rows out₀ i₀ out i = (i ≤ 32) × (out ≡ filled (rowIn rows) i out₀)
