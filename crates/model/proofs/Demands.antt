@@ -2,9 +2,9 @@
 -- and `pruning` the second number of the setting. Each theorem cites the law that proves it, and says itself what it asks of b, ts or h: mostly that Load takes b
 -- with ts, and where it needs it that b is a list of bytes.
 -- What the calls do is held to these definitions by their contracts (crates `checker` and `writer`).
-use Prim.Native.Nat.{ℕ, _+_, _*_, _-_, _≤_, _<_}
+use Prim.Native.Nat.{ℕ, _+_, _*_, _≤_, _<_}
 use native.Mathlib.Omega.{arith}
-use mathlib.Core.Path.{_≡_, refl, sym, ap, subst, _∙_}
+use mathlib.Core.Path.{_≡_, refl, sym, subst, _∙_}
 use mathlib.Core.Logic.{_⊎_, _↔_, _≢_}
 use mathlib.Core.Bool.{false, _&&_, _||_}
 use mathlib.Core.Option.{none, some}
@@ -19,7 +19,7 @@ use Rattle.model.specs.Window.{Window, windowNumber}
 use Rattle.model.specs.Refusals.{Shorter, Longer, FirstRefused, SecondRead, SecondWrite, GoodTimes, Mismatched, Untimely}
 use Rattle.model.specs.Untimed.{untimedEdge, untimedPolygraph, keepsCabinets, untimedLegal, untimedFirst}
 use Rattle.model.specs.Writing.{logOf, hasLog}
-use Rattle.model.specs.Polygraph.{Constraint, goodRead, edge, successor, Linked, isHead, tail, has, reach, pass, rows, constraints, unpruned, polygraph, Way, AcyclicSelection, Before, Respects}
+use Rattle.model.specs.Polygraph.{goodRead, edge, successor, Linked, isHead, tail, has, reach, pass, rows, constraints, unpruned, polygraph, Way, AcyclicSelection, Before, Respects}
 use Rattle.model.specs.Keys.{perOperation, countOn, constraintsOn}
 use Rattle.model.specs.Search.{firstLegal, LexLess}
 use Rattle.model.proofs.Loaded.{Bytes, operationOf, back-is, keys-good, well-formed}
@@ -41,7 +41,6 @@ use Rattle.model.proofs.First.{first-some, first-none}
 use Rattle.model.proofs.Tails.{tail-final}
 use Rattle.model.proofs.Rings.{successor-lowest, tail-linked, ring-no-head, ring-no-chain}
 use Rattle.model.proofs.Counting.{Countable, counted-timed, key-bound, all-operations, all-constraints, listed-by-key, constraints-bound, constraints-timed}
-use Rattle.model.proofs.Largest.{plain-3840, joined-3968, chained-3968, round, blind, round-3840, blind-3968, blind-key-496, round-bare, blind-bare}
 
 -- Load takes only what document 01 and card 1 let through: a history of at most 32 transactions and 256 operations, each transaction with at most one read of a
 -- key that looks at earlier transactions, then one write, then one read-back that names the transaction, every field in its range.
@@ -368,40 +367,4 @@ module _ (b : List ℕ) (ts : Times) (taken : timedNumber b ts ≡ 0) where
     pub at-most-4096-constraints : length (constraints held e) ≤ 4096
     at-most-4096-constraints = constraints-timed b (timed-log b ts taken) e ts
 
-    -- as many as without the times
-    alone : length (constraints held e) ≡ length (constraints (historyOf b) e)
-    alone = ap (λ (f : ℕ → List Constraint). length (f e)) (timed-constraints ts (historyOf b))
-
-  -- The most in each encoding are fewer ..
-  pub at-most-3840-plain : length (constraints held 0) ≤ 3840
-  at-most-3840-plain = omega (arith, alone 0, plain-3840 b (timed-log b ts taken))
-
-  pub at-most-3968-joined : length (constraints held 1) ≤ 3968
-  at-most-3968-joined = omega (arith, alone 1, joined-3968 b (timed-log b ts taken))
-
-  pub at-most-3968-chained : length (constraints held 2) ≤ 3968
-  at-most-3968-chained = omega (arith, alone 2, chained-3968 b (timed-log b ts taken))
-
--- some log that Load takes holds such a history
-abbrev Occurs : (History → Type 0) → Type 0
-Occurs P = (b : List ℕ) × (Bytes b × ((loadNumber b ≡ 0) × P (historyOf b)))
-
-occurs : (P : History → Type 0) (h : History) → All Bare h → T (wellFormed h) → P h → Occurs P
-occurs P h bare good p = let log = has-log-out h (has-log-in h good) in (logOf h, (log .0, (log .1, subst P (sym (loads-back h ∙ without-none h bare)) p)))
-
--- .. and occur.
-pub a-log-with-3840-plain : Occurs (λ h. length (constraints h 0) ≡ 3840)
-a-log-with-3840-plain = occurs (λ h. length (constraints h 0) ≡ 3840) round round-bare (round-3840 .0) (round-3840 .1)
-
-pub a-log-with-3968-joined-and-chained : Occurs (λ h. (length (constraints h 1) ≡ 3968) × (length (constraints h 2) ≡ 3968))
-a-log-with-3968-joined-and-chained = occurs (λ h. (length (constraints h 1) ≡ 3968) × (length (constraints h 2) ≡ 3968)) blind blind-bare (blind-3968 .0) (blind-3968 .1, blind-3968 .2)
-
--- 16 is the least that holds in encodings 1 and 2: 32 writers of a key that nobody reads give 496 constraints, and 15 for each of its 32 operations are 480.
--- (Plain constraints are at most 15 for each operation: `Largest`.)
-abbrev NoFewerFor : ℕ → History → Type 0
-NoFewerFor e h = (length (constraintsOn h e 0) ≤ perOperation * countOn h 0) × ((perOperation - 1) * countOn h 0 < length (constraintsOn h e 0))
-
-pub sixteen-is-the-least : Occurs (λ h. NoFewerFor 1 h × NoFewerFor 2 h)
-sixteen-is-the-least =
-    let k = blind-key-496 in
-    occurs (λ h. NoFewerFor 1 h × NoFewerFor 2 h) blind blind-bare (blind-3968 .0) ((omega (arith, k .0, k .1), omega (arith, k .0, k .1)), (omega (arith, k .0, k .2), omega (arith, k .0, k .2)))
+-- (How many there are at the most in each encoding, and that as many occur: crate `largest`.)

@@ -29,5 +29,4 @@ pub mod Bounds
 pub mod Logs
 pub mod Sums
 pub mod Counting
-pub mod Largest
 pub mod Demands

@@ -10,20 +10,21 @@ use mathlib.Core.Bool.{Bool, true, false, not, cond, _&&_}
 use mathlib.Core.List.{List, [], _∷_, map}
 use lib.Dec.{T, eqb, leb, eqb→eq, leb→le, nleb→lt}
 use lib.ListN.{length, length-map}
 use Rattle.model.specs.Lists.{All, keep, each, total, upTo}
 use Rattle.model.specs.History.{History, Operation, untimed, size, outwardOf, isRead, isReadBack, outward, readBacks, keysOnce, goodOperation, goodKeys, goodTransaction, wellFormed, writes, reads}
 use Rattle.model.specs.Log.{loadNumber, historyOf}
 use Rattle.model.specs.Times.{Bare}
-use Rattle.model.specs.Polygraph.{Constraint, goodRead, plainOf, plain, between, only, joined, isSuccessor, successor, isHead, tail, chained, constraints}
+use Rattle.model.specs.declared.Constraint.{Constraint}
+use Rattle.model.specs.Polygraph.{goodRead, plainOf, plain, between, only, joined, isSuccessor, successor, isHead, tail, chained, constraints}
 use Rattle.model.specs.Keys.{ofKey, countOn, plainOn, constraintsOn}
 use Rattle.model.proofs.Basics.{and-r, true-eq, eqb-comm, decide, All-every, All-map-in}
 use Rattle.model.proofs.Words.{digit}
 use Rattle.model.proofs.Closed.{fewer}
 use Rattle.model.proofs.Legal.{writes-small, reads-small, good-reads, good-writes, good-other}
 use Rattle.model.proofs.Central.{head-writes}
 use Rattle.model.proofs.Loaded.{operations-few}
 use Rattle.model.proofs.Sums.{total-mono, total-below, total-same, total-add, total-times, total-at, length-total, length-keep, length-each}
 use Rattle.model.proofs.Counting.{Countable, counted-log, isGood, readsOf, goodReads, isWriter, writers, chosen, reads-few, chosen-few, operations-many, of-each, between-pairs, keys-bound, length-below}
 
 -- ---- a test without two of the numbers that pass it
 
