@@ -10,13 +10,14 @@ use Rattle.model.specs.Log.{operationsIn, countAt, startAt, countsBefore, keyAt
 use Rattle.model.proofs.Basics.{same?}
 use Rattle.model.proofs.Loaded.{none-found}
 use borrow.Author.Tests.{eq-eqb, ne-eqb}
-use Rattle.log.specs.Tests.{bodyBy, faultsBy, markBy, GoodEntries, GoodTo, startsAt}
+use Rattle.rules.specs.Tests.{bodyBy, faultsBy, markBy}
+use Rattle.log.specs.Tests.{GoodEntries, GoodTo, startsAt}
 use Rattle.log.specs.Reading.{recordAt, BodyIn}
-use Rattle.log.specs.declared.Body.{Body}
+use Rattle.rules.specs.declared.Body.{Body}
 use Rattle.log.proofs.Keys.{maskAt, backsAt, mask-next, masks-start}
 use Rattle.log.proofs.Numbers.{body-is}
 use Rattle.log.proofs.Placing.{placed-within, placed-entry}
-use Rattle.log.proofs.Faults.{faults-good}
+use Rattle.rules.proofs.Faultless.{faults-good}
 use Rattle.log.proofs.Starts.{starts-none, starts-some, starts-whole, good-starts}
 
 -- after i bodies, where the transactions that start before j are begun: all bodies are good, and the masks are of the keys read and written since

@@ -12,7 +12,7 @@ use Rattle.model.proofs.Words.{bit-word, word-lt}
 use Rattle.model.proofs.Masks.{bit-or, bit-one, same-bits}
 use Rattle.model.proofs.Loops.{any-snoc}
 use Rattle.model.proofs.Basics.{eqb-comm}
-use Rattle.log.specs.Tests.{markBy, markBack}
+use Rattle.rules.specs.Tests.{markBy, markBack}
 
 -- a mask of keys, with one key more where it is marked
 mask-more : (p q : ℕ → Bool) (a : Bool) (key : ℕ) → key < 32 → ((k : ℕ) → q k ≡ (p k || (a && eqb key k)))

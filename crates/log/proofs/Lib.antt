@@ -3,6 +3,5 @@ pub mod Numbers
 pub mod Placing
 pub mod Reading
 pub mod Viewing
-pub mod Faults
 pub mod Starts
 pub mod Flat

@@ -11,9 +11,10 @@ use Rattle.model.specs.Lists.{bit}
 use Rattle.model.specs.History.{start}
 use Rattle.model.specs.Log.{transactionsIn, operationsIn, countAt, startAt, countsBefore, kindAt, keyAt, argumentAt, orElse, firstNumber, entryNumber, seen, backAt, seenBack, again, bodyNumber, bodiesNumber}
 use Rattle.model.proofs.Loaded.{Bytes, first-suc, first-on, first-stop, first-out, counts-suc, counts-mono, good-entry, good-body}
-use Rattle.log.specs.Tests.{entryBy, nextBy, summedTo, named, backBy, readBy, writeBy, bodyBy, markBy, markBack}
+use Rattle.rules.specs.Tests.{named, backBy, readBy, writeBy, bodyBy, markBy, markBack}
+use Rattle.log.specs.Tests.{entryBy, nextBy, summedTo}
 use Rattle.log.specs.Reading.{entryAt, recordAt}
-use Rattle.log.specs.declared.Body.{Body}
+use Rattle.rules.specs.declared.Body.{Body}
 use Rattle.log.specs.declared.entries.Summed.{Summed}
 use Rattle.log.specs.declared.view.Entry.{Entry}
 use Rattle.log.proofs.Keys.{maskAt, backsAt, masks-start, backs-start, mask-bit, backs-bit, mask-next, backs-next}

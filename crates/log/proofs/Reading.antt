@@ -8,7 +8,7 @@ use Rattle.model.specs.Log.{byteAt, pairAt, transactionsIn, operationsIn, cabin
 use Rattle.model.proofs.Loaded.{loaded, within, body-in, entry-in, body-good}
 use Rattle.model.specs.History.{Operation}
 use Rattle.log.specs.Reading.{headerAt, entryAt, asOperation, InLog, IsBody, IsOperation}
-use Rattle.log.specs.declared.Body.{Body}
+use Rattle.rules.specs.declared.Body.{Body}
 use Rattle.log.specs.declared.view.Header.{Header}
 use Rattle.log.specs.declared.view.Entry.{Entry}
 

@@ -12,8 +12,8 @@ use Rattle.log.proofs.view.Header as H
 use Rattle.log.proofs.view.Header.Laws as H′
 use Rattle.log.proofs.view.Entry as E
 use Rattle.log.proofs.view.Entry.Laws as E′
-use Rattle.log.proofs.Body as B
-use Rattle.log.proofs.Body.Laws as B′
+use Rattle.rules.proofs.Body as B
+use Rattle.rules.proofs.Body.Laws as B′
 
 abbrev pub headerK : Kind
 headerK = of-declared H.the-type H′.the-laws H′.lowers H′.the-plain H′.the-copy

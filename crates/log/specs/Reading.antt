@@ -7,7 +7,7 @@ use Rattle.model.specs.Log.{transactionsIn, operationsIn, cabinetAt, countAt, s
 use Rattle.model.specs.History.{Operation}
 use Rattle.log.specs.declared.view.Header.{Header}
 use Rattle.log.specs.declared.view.Entry.{Entry}
-use Rattle.log.specs.declared.Body.{Body}
+use Rattle.rules.specs.declared.Body.{Body}
 
 -- the header
 abbrev pub headerAt : List ℕ → Header

@@ -4,6 +4,7 @@ ghost use mathlib.Core.Path.{_≡_};
 ghost use Prim.Native.Nat.{_+_, _<_, _≤_};
 ghost use Rattle.model.specs.Log.{transactionsIn, cabinetAt, countAt, startAt, loadNumber};
 ghost use Rattle.log.specs.Reading.{InLog, IsOperation};
+pub use rules::Body;
 use view::body_of;
 use view::entry_of;
 use view::header_of;
@@ -75,13 +76,6 @@ pub fn start(log: &[u8], t: usize) -> usize
     ensures { λ r. ⌜ (r ≡ startAt (now (log .entry)) t) × (r + countAt (now (log .entry)) t ≤ 256) ⌝ }
 {
     entry_of(log, t).start as usize
-}
-
-// The body of an operation: kind 0 is a read and 1 a write.
-pub struct Body {
-    pub kind: usize,
-    pub key: usize,
-    pub argument: usize,
 }
 
 // Operation m of transaction t.

@@ -21,7 +21,7 @@ use Rattle.model.proofs.Loops.{map-snoc, keep-snoc, fold-snoc, before-take}
 use Rattle.model.proofs.Places.{Order, order-once, order-place, order-length}
 use Rattle.graph.specs.Masks.{putIf}
 use Rattle.log.specs.Reading.{asOperation}
-use Rattle.log.specs.declared.Body.{Body}
+use Rattle.rules.specs.declared.Body.{Body}
 use Rattle.replay.specs.Steps.{agreesBy, readsAgree, putBy, storedBy}
 use Rattle.replay.proofs.Alls.{all-same}
 use Rattle.replay.proofs.Ordering.{small-at}

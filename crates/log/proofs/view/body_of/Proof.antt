@@ -8,7 +8,7 @@ use denote.Slice.{shr-slice-lawful}
 use denote.Struct.Rest.{own-shut}
 use Rattle.log.specs.Reading.{BodyIn, IsBody}
 use Rattle.log.specs.declared.view.LogView.{LogView}
-use Rattle.log.specs.declared.Body.{Body}
+use Rattle.rules.specs.declared.Body.{Body}
 use Rattle.log.proofs.view.LogView as T
 use Rattle.log.proofs.view.LogView.Laws as T′
 use Rattle.log.proofs.Viewing.{bodyK, life, bytes-val, view-val, BytesOwn}

@@ -11,7 +11,7 @@ use denote.Struct.Laws as LL
 use denote.Struct.Rest.{all-own, own-open}
 use Rattle.log.specs.Reading.{BodyIn, IsBody}
 use Rattle.log.specs.declared.view.LogView.{LogView}
-use Rattle.log.specs.declared.Body.{Body}
+use Rattle.rules.specs.declared.Body.{Body}
 use Rattle.log.proofs.view.LogView as T
 use Rattle.log.proofs.view.LogView.Laws as T′
 use Rattle.log.proofs.Viewing.{bodyK, life, bytes-val, view-val, ViewOwn}
