@@ -1,23 +1,18 @@
 -- Replies, judgements and settings by their tests. Assumes nothing.
 use Prim.Native.Nat.{ℕ, zero, suc, _≤_}
 use native.Mathlib.Omega.{arith}
-use mathlib.Core.Path.{_≡_, refl, sym, ap, ap₂, _∙_}
+use mathlib.Core.Path.{_≡_, refl, sym, ap, ap₂}
 use mathlib.Core.Logic.{_⊎_, inl, inr, _≢_}
 use mathlib.Core.Bool.{Bool, true, false, not, cond, _&&_}
 use mathlib.Core.List.{List}
 use lib.Dec.{T, eqb, ltb, eqb→eq, nltb→le, eqb·suc-zero}
-use lib.ListN.{length}
 use borrow.Author.Tests.{eq-eqb, ne-eqb, le-ltb}
 use Rattle.model.specs.History.{isOrder}
-use Rattle.model.specs.Log.{loadNumber}
-use Rattle.model.specs.Times.{Times, timedHistory}
-use Rattle.model.specs.Polygraph.{constraints}
-use Rattle.model.proofs.Counting.{constraints-timed}
 use Rattle.answers.specs.declared.Reply.the-variants.{Taken, Refused as RefusedReply}
 use Rattle.answers.specs.declared.Judgement.the-variants.{Legal, Illegal, Refused}
 use Rattle.answers.specs.Numbers.{numberOf, replyOf, judgementNumber, judgementYes, judgementOf}
 use Rattle.answers.specs.Stages.{orderRefusal}
-use Rattle.answers.specs.Settings.{settingRefusal, placesRefusal, polygraphRefusal}
+use Rattle.answers.specs.Settings.{settingRefusal, placesRefusal}
 
 -- ---- replies
 
@@ -116,18 +111,3 @@ places-zero n places words = go (ltb places n) (ltb words 32) (λ t. nltb→le p
 pub places-enough : (n places words : ℕ) → n ≤ places → 32 ≤ words → placesRefusal n places words ≡ 0
 unfolding placesRefusal
 places-enough n places words l m = ap₂ {C = ℕ} (λ (a b : Bool). cond a 25 (cond b 25 0)) (le-ltb places n l) (le-ltb words 32 m)
-
--- Of a log that Load takes, with whatever times, 4,096 places are always enough: the setting alone can be refused.
-pub enough-for-a-log : (b : List ℕ) (ts : Times) → loadNumber b ≡ 0 → (e pruning places words : ℕ) → 4096 ≤ places → 32 ≤ words
-    → polygraphRefusal (timedHistory b ts) e pruning places words ≡ settingRefusal e pruning
-enough-for-a-log b ts taken e pruning places words l m = go (eqb setting 0) (λ t. eqb→eq setting 0 t)
-  where
-    setting : ℕ
-    setting = settingRefusal e pruning
-
-    n : ℕ
-    n = length (constraints (timedHistory b ts) e)
-
-    go : (t : Bool) → (T t → setting ≡ 0) → cond t (placesRefusal n places words) setting ≡ setting
-    go true f = places-enough n places words (omega (arith, constraints-timed b taken e ts)) m ∙ sym (f tt)
-    go false f = refl

@@ -1,10 +1,7 @@
 -- Refusals of a setting and of the places of lent lists: document 01, the two pages of refusals. Assumes nothing.
 use Prim.Native.Nat.{ℕ}
 use mathlib.Core.Bool.{cond}
-use lib.Dec.{eqb, ltb}
-use lib.ListN.{length}
-use Rattle.model.specs.History.{History}
-use Rattle.model.specs.Polygraph.{constraints}
+use lib.Dec.{ltb}
 
 -- 12 setting out of range: encoding 0 to 2, pruning 0 or 1
 unfoldable pub settingRefusal : ℕ → ℕ → ℕ
@@ -13,8 +10,3 @@ settingRefusal e pruning = cond (ltb 2 e) 12 (cond (ltb 1 pruning) 12 0)
 -- 25 a lent list too short: fewer places than constraints before pruning, then 32 row words
 unfoldable pub placesRefusal : ℕ → ℕ → ℕ → ℕ
 placesRefusal count places words = cond (ltb places count) 25 (cond (ltb words 32) 25 0)
-
--- of a history, in a setting and for lists of so many places: 12, then 25
-abbrev pub polygraphRefusal : History → ℕ → ℕ → ℕ → ℕ → ℕ
-polygraphRefusal h e pruning places words =
-    cond (eqb (settingRefusal e pruning) 0) (placesRefusal (length (constraints h e)) places words) (settingRefusal e pruning)

@@ -26,8 +26,10 @@ use Rattle.answers.specs.Copies.{copied}
 use Rattle.answers.specs.Clocks.{timesIn}
 use Rattle.answers.specs.Numbers.{numberOf, replyOf}
 use Rattle.checker.specs.Encodings.{encodeRefusal, encodeAnswer, encodeList, encodeRows, Encodes, Plans}
-use Rattle.answers.specs.Settings.{settingRefusal, placesRefusal, polygraphRefusal}
-use Rattle.answers.proofs.Answering.{number-reply, setting-either, places-zero, enough-for-a-log}
+use Rattle.answers.specs.Settings.{settingRefusal, placesRefusal}
+use Rattle.finding.specs.Settings.{polygraphRefusal}
+use Rattle.answers.proofs.Answering.{number-reply, setting-either, places-zero}
+use Rattle.finding.proofs.Finding.{enough-for-a-log}
 use Rattle.checker.proofs.Holding.{case-loads}
 
 module _ (c : Case) (e pruning places words : ℕ) where

@@ -21,7 +21,7 @@ use Rattle.listing.specs.Candidates.{itemsBy}
 use Rattle.listing.proofs.Data.{Lent₂}
 use Rattle.encoding.proofs.write_left as write-left
 use Rattle.encoding.proofs.write_left.Symbol.{name as #encoding·write-left}
-use Rattle.answers.specs.Finding.{Finds}
+use Rattle.finding.specs.Finding.{Finds}
 use Rattle.checker.specs.declared.Case.{Case}
 use Rattle.checker.specs.declared.deciding.Prepared.{Prepared}
 use Rattle.checker.specs.Cases.{historyIn}

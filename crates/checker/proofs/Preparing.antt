@@ -16,12 +16,12 @@ use Rattle.model.proofs.Basics.{same?}
 use Rattle.listing.specs.Candidates.{itemsBy}
 use Rattle.decision.specs.Answer.{isSome}
 use Rattle.answers.specs.Numbers.{verdictNumber}
-use Rattle.answers.specs.Settings.{polygraphRefusal}
+use Rattle.finding.specs.Settings.{polygraphRefusal}
 use Rattle.answers.specs.Stages.{isFresh}
-use Rattle.answers.specs.Finding.{Finds, refusedOutcome}
+use Rattle.finding.specs.Finding.{Finds, refusedOutcome}
 use Rattle.answers.specs.declared.Stage.{Stage}
-use Rattle.answers.specs.declared.deciding.Outcome.{Outcome}
-use Rattle.answers.proofs.Finding.{refused-finds}
+use Rattle.finding.specs.declared.Outcome.{Outcome}
+use Rattle.finding.proofs.Finding.{refused-finds}
 use Rattle.checker.specs.declared.Case.{Case}
 use Rattle.checker.specs.declared.Decision.{Decision}
 use Rattle.checker.specs.declared.deciding.Prepared.{Prepared}

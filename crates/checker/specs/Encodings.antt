@@ -14,7 +14,7 @@ use Rattle.checker.specs.declared.polygraphs.Planning.{Planning}
 use Rattle.checker.specs.Cases.{historyIn, stageOf}
 use Rattle.answers.specs.Stages.{isFresh}
 use Rattle.answers.specs.Numbers.{numberOf, replyOf}
-use Rattle.answers.specs.Settings.{polygraphRefusal}
+use Rattle.finding.specs.Settings.{polygraphRefusal}
 
 -- Encode tests 22, a fresh case, then 12, 25.
 unfoldable pub encodeRefusal : Case → ℕ → ℕ → ℕ → ℕ → ℕ

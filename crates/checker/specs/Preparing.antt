@@ -7,7 +7,7 @@ use Rattle.answers.specs.declared.Stage.{Stage}
 use Rattle.answers.specs.declared.Stage.the-variants.{Ordered, NoOrder}
 use Rattle.answers.specs.declared.Verdict.{Verdict}
 use Rattle.answers.specs.declared.Verdict.the-variants.{Order, NoOrder as NoOrderSaid}
-use Rattle.answers.specs.declared.deciding.Outcome.{Outcome}
+use Rattle.finding.specs.declared.Outcome.{Outcome}
 use Rattle.checker.specs.declared.Case.{Case}
 use Rattle.checker.specs.declared.Decision.{Decision}
 use Rattle.checker.specs.declared.deciding.Prepared.{Prepared}

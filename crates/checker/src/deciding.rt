@@ -1,7 +1,7 @@
 // The parts of Decide that work on values: what is found out before anything is written, the case with the answer stored, and the answer.
 ghost use mathlib.Core.Path.{_≡_};
 ghost use mathlib.Core.Bool.{true};
-ghost use Rattle.answers.specs.Finding.{Finds, refusedOutcome};
+ghost use Rattle.finding.specs.Finding.{Finds, refusedOutcome};
 ghost use Rattle.checker.specs.Cases.{historyIn};
 ghost use Rattle.checker.specs.Decisions.{decideRefusal};
 ghost use Rattle.checker.specs.Preparing.{outcomeIn, stageBy, storing, answering};
@@ -12,7 +12,7 @@ use crate::Verdict;
 use crate::held::is_fresh;
 use crate::plans::Plan;
 use crate::plans::none;
-use answers::deciding::decided;
+use finding::decided;
 use listing::PLACES;
 use listing::WORDS;
 

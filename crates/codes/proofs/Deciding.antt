@@ -23,10 +23,10 @@ use Rattle.model.proofs.Times.{timed-log-size, timed-table}
 use Rattle.model.proofs.Windows.{number-of-log}
 use Rattle.decision.specs.Answer.{isSome}
 use Rattle.answers.specs.declared.Stage.the-variants.{Ordered}
-use Rattle.answers.specs.declared.deciding.Outcome.{Outcome}
+use Rattle.finding.specs.declared.Outcome.{Outcome}
 use Rattle.answers.specs.Copies.{copied}
-use Rattle.answers.specs.Finding.{Finds}
-use Rattle.answers.specs.Settings.{polygraphRefusal}
+use Rattle.finding.specs.Finding.{Finds}
+use Rattle.finding.specs.Settings.{polygraphRefusal}
 use Rattle.answers.specs.Stages.{holdsWindow, claimsOrder, counted, isFresh}
 use Rattle.checker.specs.declared.Case.{Case}
 use Rattle.checker.specs.declared.Decision.{Decision}

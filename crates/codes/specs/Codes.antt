@@ -17,7 +17,7 @@ use Rattle.answers.specs.declared.Judgement.{Judgement}
 use Rattle.answers.specs.declared.Judgement.the-variants.{Legal, Illegal, Refused}
 use Rattle.answers.specs.declared.Verdict.{Verdict}
 use Rattle.answers.specs.declared.Verdict.the-variants.{Order, NoOrder, Refused as RefusedVerdict}
-use Rattle.answers.specs.declared.deciding.Outcome.{Outcome}
+use Rattle.finding.specs.declared.Outcome.{Outcome}
 use Rattle.answers.specs.Numbers.{numberOf}
 use Rattle.checker.specs.Cases.{loadedCase}
 use Rattle.checker.specs.Calls.{checking}

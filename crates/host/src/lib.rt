@@ -19,12 +19,12 @@ ghost use Rattle.codes.specs.Codes.{checkWindow, windowCode, windowOrder, windo
 ghost use Rattle.codes.specs.Codes.{checkCode, decideCode, orderAfter, tableAfter, decideFromCode, decideFromOrder, decideFromTable, encodeCode, encodeAfter};
 ghost use Rattle.codes.specs.Codes.{lengthsNumber, checkStrictCode, decideStrictCode, decideStrictOrder, decideStrictTable, encodeStrictCode, encodeStrictAfter};
 use answers::copies::copy_bytes;
-use answers::deciding::Outcome;
-use answers::deciding::decided;
 use answers::windows::timed_number;
 use checker::Answer;
 use checker::Case;
 use checker::Judgement;
+use finding::Outcome;
+use finding::decided;
 use listing::PLACES;
 use listing::WORDS;
 

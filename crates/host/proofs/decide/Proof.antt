@@ -11,7 +11,7 @@ use Rattle.codes.proofs.Deciding.{takes, as-decided, found-order}
 use borrow.Author.Needs.{needs}
 use Rattle.host.proofs.decide.Statement.{statement}
 use Rattle.host.proofs.decide.Tie as tie
-use Rattle.answers.proofs.deciding.decided.Reads as decided-reads
+use Rattle.finding.proofs.decided.Reads as decided-reads
 use Rattle.host.proofs.answered.Reads as answered-reads
 use Rattle.answers.proofs.windows.timed_number.Reads as timed-number-reads
 

@@ -1,5 +1,5 @@
 -- `checker::deciding::nothing` meets its contract. Assumes nothing.
-use Rattle.answers.specs.Finding.{refusedOutcome}
+use Rattle.finding.specs.Finding.{refusedOutcome}
 use borrow.Author.Needs.{needs}
 use Rattle.checker.proofs.deciding.nothing.Statement.{statement}
 use Rattle.checker.proofs.deciding.nothing.Tie as tie

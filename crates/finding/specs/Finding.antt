@@ -11,7 +11,7 @@ use Rattle.model.specs.Search.{firstLegal}
 use Rattle.model.specs.Lent.{orderNumbers, encodedCount}
 use Rattle.listing.specs.Candidates.{itemsBy}
 use Rattle.decision.specs.Answer.{isSome}
-use Rattle.answers.specs.declared.deciding.Outcome.{Outcome}
+use Rattle.finding.specs.declared.Outcome.{Outcome}
 
 -- a refusal, with nothing beside it
 unfoldable pub refusedOutcome : ℕ → Outcome

@@ -13,7 +13,7 @@ use Rattle.pruning.specs.Passes.{PlaceWithin}
 use Rattle.pruning.proofs.Counts.{HitWithin, begin-counts, skim-counts, after-counts, pass-counts, settled-counts}
 use Rattle.search.specs.Steps.{Turning}
 use Rattle.search.proofs.Counts.{turn-first, turn-hit, turn-again, word-counts, open-next}
-use Rattle.answers.specs.Counts.{Carried, many, standing, skimmed, turning, found, counts, Listed, Handed, lists, begins, skims, goes-on, prunes, writes, prunes-once, settles, turns, hits, turns-behind, turns-again, opens-word, opens, opens-behind, chooses}
+use Rattle.finding.specs.Counts.{Carried, many, standing, skimmed, turning, found, counts, Listed, Handed, lists, begins, skims, goes-on, prunes, writes, prunes-once, settles, turns, hits, turns-behind, turns-again, opens-word, opens, opens-behind, chooses}
 
 -- what is known of the counts of a state: they lie below n, each in its order
 abbrev Bounded : ℕ → Carried → Type 0

@@ -1,12 +1,12 @@
--- `answers::deciding::decided` meets its contract. Assumes nothing.
+-- `finding::decided` meets its contract. Assumes nothing.
 use Rattle.answers.proofs.Answering.{setting-zero}
-use Rattle.answers.proofs.Finding.{setting-finds, places-finds, settled-in, answer-finds, rows-tidy}
+use Rattle.finding.proofs.Finding.{setting-finds, places-finds, settled-in, answer-finds, rows-tidy}
 use Rattle.model.specs.Times.{times}
 use Rattle.model.proofs.Times.{timed-log}
 use mathlib.Core.Path.{sym, _∙_}
 use borrow.Author.Needs.{needs}
-use Rattle.answers.proofs.deciding.decided.Statement.{statement}
-use Rattle.answers.proofs.deciding.decided.Tie as tie
+use Rattle.finding.proofs.decided.Statement.{statement}
+use Rattle.finding.proofs.decided.Tie as tie
 
 setting-refusal-requires : tie.Need-setting-refusal-requires
 setting-refusal-requires c κs = search needs

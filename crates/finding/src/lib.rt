@@ -11,10 +11,10 @@ ghost use Rattle.listing.specs.Candidates.{itemsBy};
 ghost use Rattle.listing.specs.Choosing.{Space};
 ghost use Rattle.pruning.specs.Numbers.{PrunedTo};
 ghost use Rattle.pruning.specs.Passes.{settled};
-ghost use Rattle.answers.specs.Settings.{polygraphRefusal};
-ghost use Rattle.answers.specs.Finding.{refusedOutcome, Finds};
-use crate::settings::places_refusal;
-use crate::settings::setting_refusal;
+ghost use Rattle.finding.specs.Settings.{polygraphRefusal};
+ghost use Rattle.finding.specs.Finding.{refusedOutcome, Finds};
+use answers::settings::places_refusal;
+use answers::settings::setting_refusal;
 use listing::PLACES;
 use listing::WORDS;
 

@@ -53,7 +53,7 @@ pub data Handed (n : ℕ) : Carried → Type 0 where
   goes-on : (p : Place) (h : Hit) → Handed n (skimmed p h) → Handed n (standing (nextPlace p h))
   prunes : (g : List ℕ) (ys zs : List Constraint) (m pruning : ℕ) (r : Pruned) → Handed n (many m) → Pruning g ys m pruning r zs → Handed n (many (r .left))
   writes : (h : History) (e pruning : ℕ) (t ks rs : List ℕ) (ys zs : List Constraint) (m : ℕ) (r : Pruned) → Handed n (many m) → Planned h e t ks rs m → Encoded h e pruning ys r zs → Handed n (many (r .left))
-  -- on numbers: `pruning::numbers::pass`; `pruning::numbers::prune` and `deciding::settle`
+  -- on numbers: `pruning::numbers::pass`; `pruning::numbers::prune` and `settle`
   prunes-once : (g t ks ls ws : List ℕ) (m r : ℕ) → Handed n (many m) → PrunedTo (pass g (itemsBy t ks m)) t ls r ws → Handed n (many r)
   settles : (g t ks ls ws : List ℕ) (m r pruning : ℕ) → Handed n (many m) → PrunedTo (settled pruning (record { known = g; choices = itemsBy t ks m })) t ls r ws → Handed n (many r)
   -- in the search: `prune`, from turn to turn, with what `next_hit` gives

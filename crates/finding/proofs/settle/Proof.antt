@@ -1,9 +1,9 @@
--- `answers::deciding::settle` meets its contract. Assumes nothing.
-use Rattle.answers.proofs.Finding.{pruned-to, kept-all}
+-- `finding::settle` meets its contract. Assumes nothing.
+use Rattle.finding.proofs.Finding.{pruned-to, kept-all}
 use native.Mathlib.Omega.{arith}
 use borrow.Author.Needs.{needs}
-use Rattle.answers.proofs.deciding.settle.Statement.{statement}
-use Rattle.answers.proofs.deciding.settle.Tie as tie
+use Rattle.finding.proofs.settle.Statement.{statement}
+use Rattle.finding.proofs.settle.Tie as tie
 
 prune-requires : tie.Need-prune-requires
 prune-requires c κs = search needs

@@ -1,10 +1,10 @@
--- `answers::deciding::pruning_needed` meets its contract. Assumes nothing.
+-- `finding::pruning_needed` meets its contract. Assumes nothing.
 use mathlib.Core.Path.{refl, sym, _∙_}
 use mathlib.Core.Logic.{inl, inr}
 use Rattle.search.proofs.Steps.{no-true}
 use borrow.Author.Needs.{needs}
-use Rattle.answers.proofs.deciding.pruning_needed.Statement.{statement}
-use Rattle.answers.proofs.deciding.pruning_needed.Tie as tie
+use Rattle.finding.proofs.pruning_needed.Statement.{statement}
+use Rattle.finding.proofs.pruning_needed.Tie as tie
 
 returns : tie.Need-returns
 returns c = (λ e. refl, inl refl)

@@ -3,16 +3,19 @@ use Prim.Native.Nat.{ℕ, _≤_}
 use native.Mathlib.Omega.{arith}
 use mathlib.Core.Path.{_≡_, refl, sym, ap, ap₂, subst, _∙_}
 use mathlib.Core.Logic.{_≢_, _⊎_, ⊎-elim}
-use mathlib.Core.Bool.{Bool, true, cond}
+use mathlib.Core.Bool.{Bool, true, false, cond}
 use mathlib.Core.List.{List}
+use lib.Dec.{T, eqb, eqb→eq}
 use lib.ListN.{length}
 use borrow.Author.Tests.{eq-eqb, ne-eqb}
 use Rattle.model.specs.declared.Constraint.{Constraint}
 use Rattle.model.specs.History.{History, size}
+use Rattle.model.specs.Log.{loadNumber}
 use Rattle.model.specs.Times.{Times, timedNumber, timedHistory}
 use Rattle.model.specs.Polygraph.{Polygraph, reach, rows, constraints, polygraph}
 use Rattle.model.specs.Lent.{encodedCount}
 use Rattle.model.specs.RowWords.{Tidy}
+use Rattle.model.proofs.Counting.{constraints-timed}
 use Rattle.model.proofs.Times.{loadable-timed}
 use Rattle.model.proofs.Reach.{within-tidy}
 use Rattle.model.proofs.Pruning.{unpruned-sound}
@@ -23,10 +26,11 @@ use Rattle.pruning.specs.Numbers.{PrunedTo}
 use Rattle.encoding.specs.Writing.{Planned}
 use Rattle.search.specs.declared.order.Found.{Found}
 use Rattle.decision.specs.Answer.{SettledIn, firstAnswer}
-use Rattle.answers.specs.declared.deciding.Outcome.{Outcome}
-use Rattle.answers.specs.Settings.{settingRefusal, placesRefusal, polygraphRefusal}
-use Rattle.answers.specs.Finding.{refusedOutcome, Finds}
-use Rattle.answers.proofs.Answering.{setting-zero, pruning-zero, places-zero}
+use Rattle.answers.specs.Settings.{settingRefusal, placesRefusal}
+use Rattle.answers.proofs.Answering.{setting-zero, pruning-zero, places-zero, places-enough}
+use Rattle.finding.specs.declared.Outcome.{Outcome}
+use Rattle.finding.specs.Settings.{polygraphRefusal}
+use Rattle.finding.specs.Finding.{refusedOutcome, Finds}
 
 -- ---- pruning, by its number
 
@@ -127,3 +131,20 @@ module _ (h : History) (e pruning places : ℕ) (listed : Bool) (used : ℕ) (sa
     within = within;
     none = λ f. absurd (f refl);
   }
+
+-- ---- places
+
+-- Of a log that Load takes, with whatever times, 4,096 places are always enough: the setting alone can be refused.
+pub enough-for-a-log : (b : List ℕ) (ts : Times) → loadNumber b ≡ 0 → (e pruning places words : ℕ) → 4096 ≤ places → 32 ≤ words
+    → polygraphRefusal (timedHistory b ts) e pruning places words ≡ settingRefusal e pruning
+enough-for-a-log b ts taken e pruning places words l m = go (eqb setting 0) (λ t. eqb→eq setting 0 t)
+  where
+    setting : ℕ
+    setting = settingRefusal e pruning
+
+    n : ℕ
+    n = length (constraints (timedHistory b ts) e)
+
+    go : (t : Bool) → (T t → setting ≡ 0) → cond t (placesRefusal n places words) setting ≡ setting
+    go true f = places-enough n places words (omega (arith, constraints-timed b taken e ts)) m ∙ sym (f tt)
+    go false f = refl
