@@ -101,7 +101,7 @@ uint32_t beaconcrumb_check(const uint8_t *log, size_t log_len, const uint8_t *or
  * begin and end hold the second in which each transaction began and ended, in the order of the log's entries: four bytes each, low byte first, so 4T bytes
  * both. Two lengths of 0 mean a window without times (both pointers must not be null then either). With drift 0 the functions are then those above,
  * beaconcrumb_decide_strict is beaconcrumb_decide_from. Another drift orders nothing there, but one over 3,600 is refused all the same.
- * The clock knows no summer time. drift is the most seconds by which two cabinets' clocks may differ, 0 to 3,600.
+ * The clock knows no summer time. drift, 0 to 3,600 seconds, is added to every end before it is compared.
  * Transaction i comes before j by the clock where end of i plus drift is less than begin of j, a sum that doesn't wrap; equal seconds order nothing.
  * Each such pair is a known edge in every encoding, and an order is legal only if it keeps all of them.
  * They give 37 where begin and end are neither both empty nor both 4T bytes, and 38 where a begin is after its end or the drift is over 3,600, also without

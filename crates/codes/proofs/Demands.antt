@@ -1,47 +1,46 @@
 -- What a caller in C relies on beside the equations: nothing is written unless 0 is returned; a start changes the table alone, and a table that was written can be
 -- one; 25 speaks of the caller's buffers alone; without times the strict functions are the others, where exactly they give 37 and 36, and that they go by the window
--- whose seconds the bytes are. Assumes nothing.
+-- whose seconds the bytes are; what Encode writes, read back; and that Decide writes the first legal order and the table which its replay leaves. Assumes nothing.
 use mathlib.Core.Path.{_≡_, refl, sym, ap, subst, _∙_}
 use mathlib.Core.Logic.{_⊎_, ⊎-elim, _↔_, _≢_}
 use Prim.Native.Nat.{ℕ, _+_, _*_, _≤_}
 use native.Mathlib.Omega.{arith}
-use mathlib.Core.Bool.{Bool, true, false, cond}
+use mathlib.Core.Bool.{Bool, true, false, not, cond}
 use mathlib.Core.List.{List, []}
-use lib.Dec.{T, eqb, ltb}
-use lib.ListN.{length, replicate}
+use lib.Dec.{T, eqb, ltb, nltb→le}
+use lib.ListN.{length, drop, replicate}
 use borrow.Author.Tests.{eq-eqb, ne-eqb}
 use Rattle.model.specs.Lists.{implies}
 use Rattle.model.specs.History.{History, isOrder, legal}
 use Rattle.model.specs.Log.{pairAt, loadNumber, transactionsIn, historyOf}
-use Rattle.model.specs.Times.{times, noTimes}
+use Rattle.model.specs.Times.{times, noTimes, timedHistory}
 use Rattle.model.specs.Window.{Window, window, windowNumber, windowHistory, zeros, fromZeros}
 use Rattle.model.specs.Lent.{noConstraint, encodedCount}
 use Rattle.model.specs.Search.{firstLegal}
 use Rattle.model.proofs.Basics.{same?, not-intro, false-eq}
 use Rattle.model.proofs.Times.{timed-none}
-use Rattle.model.proofs.Windows.{number-of-zeros, table-iff}
+use Rattle.model.proofs.Windows.{number-by-log, number-of-log, number-of-zeros, table-iff}
 use Rattle.decision.specs.Answer.{isSome}
-use Rattle.answers.specs.declared.Verdict.{Verdict}
-use Rattle.answers.specs.declared.Verdict.the-variants.{Order, NoOrder, Refused}
 use Rattle.answers.specs.Settings.{settingRefusal}
 use Rattle.answers.proofs.Answering.{setting-either}
-use Rattle.checker.specs.declared.Case.{Case}
 use Rattle.checker.specs.Cases.{loadedCase}
 use Rattle.checker.specs.Calls.{checking}
 use Rattle.checker.specs.Encodings.{encodeAnswer, encodeList, encodeRows}
 use Rattle.checker.specs.Results.{tableLeft}
 use Rattle.codes.specs.Images.{polygraphIn, valuesIn, secondsIn, secondBytes}
-use Rattle.codes.specs.Codes.{judgementCode, verdictCode, whereOrdered, whereLoaded, roomCode, orderOf, tableOf, decisionOf, saidCode, polygraphCode, polygraphAfter}
+use Rattle.codes.specs.Codes.{judgementCode, whereLoaded, decisionOf, saidCode, polygraphCode, polygraphAfter}
 use Rattle.codes.specs.Codes.{checkWindow, windowCode, windowOrder, windowTable, encodeWindow, encodeWindowAfter}
 use Rattle.codes.specs.Codes.{checkCode, decideCode, orderAfter, tableAfter, startWindow, decideFromCode, decideFromOrder, decideFromTable, encodeCode, encodeAfter}
+use Rattle.codes.specs.Told.{Ordered}
 use Rattle.codes.specs.Codes.{fourEach, whereTimed, strictWindow, checkStrictCode, decideStrictCode, decideStrictOrder, decideStrictTable, encodeStrictCode, encodeStrictAfter}
+use Rattle.codes.specs.Read.{Polygraphed}
 use Rattle.codes.proofs.Taking.{chosen-kept, chosen-done, chosen-never}
-use Rattle.codes.proofs.Timing.{Told, four-out, four-in, where-untimed, thirty-seven}
-use Rattle.codes.proofs.Writing.{kept}
+use Rattle.codes.proofs.Timing.{Told, four-out, four-in, where-unasked, where-untimed, thirty-seven}
 use Rattle.codes.proofs.Room.{decided-code, decided-refused, encoded-code, encoded-refused, checked-code, decided-never-25, encoded-never-25, decided-told, encoded-told, checked-told}
 use Rattle.codes.proofs.Starting.{start-refused, start-taken, start-same, values-32, code-same, order-same, written-start}
-use Rattle.codes.proofs.Strict.{untimed}
+use Rattle.codes.proofs.Ordering.{ordered, window-writes-with-0-alone, check-alike, encode-alike, sent-alike, code-alike, lists-alike, untimed-number, untimed-history}
 use Rattle.codes.proofs.Bytes.{checked, encoded, encoded-list, decided, decided-order, decided-table}
+use Rattle.codes.proofs.Reading.{written}
 
 -- a setting that is taken, and one that is refused
 by-setting : (e pruning n x : ℕ) → (settingRefusal e pruning ≡ 0 → n ≡ x) → (settingRefusal e pruning ≡ 12 → n ≡ 12) → n ≡ cond (eqb (settingRefusal e pruning) 0) x 12
@@ -58,24 +57,6 @@ not-36 w long x told q =
     ⊎-elim (λ l. omega (arith, l, is)) (λ l. omega (arith, l, is)) (told z))
     (λ (f : windowNumber w ≢ 0). table-iff w .0 (sym (ap (λ b. cond b x (windowNumber w)) (ne-eqb (windowNumber w) 0 f)) ∙ q) long)
     (same? (windowNumber w) 0)
-
-window-writes-with-0-alone : (w : Window) (e pruning : ℕ) (order table : List ℕ) → windowCode w e pruning (length order) (length table) ≢ 0
-    → (windowOrder w e pruning order (length table) ≡ order) × (windowTable w e pruning (length order) table ≡ table)
-unfolding windowCode windowOrder windowTable
-window-writes-with-0-alone w e pruning order table = go (eqb (windowNumber w) 0) (decisionOf w e pruning .verdict)
-  where
-    c : Case
-    c = decisionOf w e pruning .case
-
-    code : ℕ
-    code = roomCode c (length order) (length table)
-
-    go : (b : Bool) (v : Verdict) → cond b (verdictCode v code) (windowNumber w) ≢ 0
-        → (cond b (whereOrdered v (orderOf c order (length table)) order) order ≡ order) × (cond b (whereOrdered v (tableOf c (length order) table) table) table ≡ table)
-    go false v f = (refl, refl)
-    go true Order f = let k = kept c order table f in (sym (k .0), sym (k .1))
-    go true NoOrder f = (refl, refl)
-    go true (Refused n) f = (refl, refl)
 
 pub decide-writes-with-0-alone : (log : List ℕ) (e pruning : ℕ) (order table : List ℕ) → decideCode log e pruning (length order) (length table) ≢ 0
     → (orderAfter log e pruning order (length table) ≡ order) × (tableAfter log e pruning (length order) table ≡ table)
@@ -165,22 +146,45 @@ decide-from-never-gives-25 log start e pruning order table long wide =
 pub encode-never-gives-25 : (log : List ℕ) (e pruning room : ℕ) → 41090 ≤ room → encodeCode log e pruning room ≢ 25
 encode-never-gives-25 log = encoded-never-25 (fromZeros log)
 
--- ---- The strict functions. With two empty lists and drift 0 they are the functions without times.
+-- ---- The strict functions. With two empty lists, and any drift up to 3,600, they are the functions without times.
 
-pub strict-decide-without-times : (log start : List ℕ) (e pruning : ℕ) (order table : List ℕ)
-    → (decideStrictCode log start [] [] 0 e pruning (length order) (length table) ≡ decideFromCode log start e pruning (length order) (length table))
-    × (decideStrictOrder log start [] [] 0 e pruning order (length table) ≡ decideFromOrder log start e pruning order (length table))
-    × (decideStrictTable log start [] [] 0 e pruning (length order) table ≡ decideFromTable log start e pruning (length order) table)
-strict-decide-without-times log start e pruning order table = untimed log start e pruning order table
+pub strict-decide-without-times : (log start : List ℕ) (drift : ℕ) → drift ≤ 3600 → (e pruning : ℕ) (order table : List ℕ)
+    → (decideStrictCode log start [] [] drift e pruning (length order) (length table) ≡ decideFromCode log start e pruning (length order) (length table))
+    × (decideStrictOrder log start [] [] drift e pruning order (length table) ≡ decideFromOrder log start e pruning order (length table))
+    × (decideStrictTable log start [] [] drift e pruning (length order) table ≡ decideFromTable log start e pruning (length order) table)
+unfolding decideStrictCode decideStrictOrder decideStrictTable decideFromCode decideFromOrder decideFromTable secondsIn
+strict-decide-without-times log start drift low e pruning order table =
+    let vs = valuesIn start in
+    let u = window log vs (times [] [] drift) in
+    let number = untimed-number log vs drift (values-32 start) low in
+    let history = untimed-history log drift in
+    let lists = lists-alike log vs (times [] [] drift) noTimes number history e pruning order table in (
+      ap (λ x. cond (eqb (length start) 64) x 36)
+          (where-untimed log (windowCode u e pruning (length order) (length table)) 37
+          ∙ code-alike log vs (times [] [] drift) noTimes number history e pruning (length order) (length table)),
+      ap (λ x. cond (eqb (length start) 64) x order) (where-untimed log (windowOrder u e pruning order (length table)) order ∙ lists .0),
+      ap (λ x. cond (eqb (length start) 64) x table) (where-untimed log (windowTable u e pruning (length order) table) table ∙ lists .1),
+    )
 
-pub strict-encode-without-times : (log : List ℕ) (e pruning : ℕ) (out : List ℕ)
-    → (encodeStrictCode log [] [] 0 e pruning (length out) ≡ encodeCode log e pruning (length out)) × (encodeStrictAfter log [] [] 0 e pruning out ≡ encodeAfter log e pruning out)
+pub strict-encode-without-times : (log : List ℕ) (drift : ℕ) → drift ≤ 3600 → (e pruning : ℕ) (out : List ℕ)
+    → (encodeStrictCode log [] [] drift e pruning (length out) ≡ encodeCode log e pruning (length out))
+    × (encodeStrictAfter log [] [] drift e pruning out ≡ encodeAfter log e pruning out)
 unfolding encodeStrictCode encodeStrictAfter secondsIn
-strict-encode-without-times log e pruning out = (where-untimed log (encodeCode log e pruning (length out)) 37, where-untimed log (encodeAfter log e pruning out) out)
+strict-encode-without-times log drift low e pruning out =
+    let ts = times [] [] drift in
+    let u = window log zeros ts in
+    let number = untimed-number log zeros drift refl low in
+    let history = untimed-history log drift in (
+      where-untimed log (encodeWindow u e pruning (length out)) 37 ∙ encode-alike log zeros ts noTimes number history e pruning (length out),
+      where-untimed log (encodeWindowAfter u e pruning out) out ∙ sent-alike log zeros ts noTimes number history e pruning out,
+    )
 
-pub strict-check-without-times : (log order : List ℕ) → checkStrictCode log [] [] 0 order ≡ checkCode log order
+pub strict-check-without-times : (log : List ℕ) (drift : ℕ) → drift ≤ 3600 → (order : List ℕ) → checkStrictCode log [] [] drift order ≡ checkCode log order
 unfolding checkStrictCode secondsIn
-strict-check-without-times log order = where-untimed log (checkCode log order) 37
+strict-check-without-times log drift low order =
+    let ts = times [] [] drift in
+    where-untimed log (checkWindow (window log zeros ts) order) 37
+    ∙ check-alike log zeros ts noTimes (untimed-number log zeros drift refl low) (untimed-history log drift) order
 
 -- Nothing is written unless 0 is returned.
 pub strict-decide-writes-with-0-alone : (log start begin end : List ℕ) (drift e pruning : ℕ) (order table : List ℕ)
@@ -362,3 +366,161 @@ pub a-taken-window-is-decided : (w : Window) → windowNumber w ≡ 0 → (e pru
     ≡ cond (eqb (settingRefusal e pruning) 0) (cond (isSome (firstLegal (windowHistory w))) (cond (ltb table 64) 25 (cond (ltb order (transactionsIn (w .bytes))) 25 0)) 255) 12
 a-taken-window-is-decided w z e pruning order table =
     by-setting e pruning _ _ (λ s. decided-code w z e pruning order table s) (λ s. decided-refused w z e pruning order table s)
+
+-- Beside a log that is refused each strict function gives the log's number, whatever the bytes of the times, also of odd lengths; Decide of a start of 64 bytes.
+refused-number : (log starting begin end : List ℕ) (drift : ℕ) → length starting ≡ 32 → loadNumber log ≢ 0
+    → windowNumber (strictWindow log starting begin end drift) ≡ loadNumber log
+refused-number log starting begin end drift long f =
+    let w = strictWindow log starting begin end drift in
+    number-of-log w long ∙ number-by-log log (w .clock) f
+
+module _ (log : List ℕ) (refused : loadNumber log ≢ 0) (begin end : List ℕ) (drift : ℕ) where
+  pub strict-check-of-a-refused-log : (order : List ℕ) → checkStrictCode log begin end drift order ≡ loadNumber log
+  unfolding checkStrictCode
+  strict-check-of-a-refused-log order =
+      let w = strictWindow log zeros begin end drift in
+      let is = refused-number log zeros begin end drift refl refused in
+      where-unasked log begin end (checkWindow w order) 37 refused
+      ∙ a-refused-window-has-its-number w (λ z. refused (sym is ∙ z)) order 0 0 0 0 0 .0 ∙ is
+
+  pub strict-encode-of-a-refused-log : (e pruning room : ℕ) → encodeStrictCode log begin end drift e pruning room ≡ loadNumber log
+  unfolding encodeStrictCode
+  strict-encode-of-a-refused-log e pruning room =
+      let w = strictWindow log zeros begin end drift in
+      let is = refused-number log zeros begin end drift refl refused in
+      where-unasked log begin end (encodeWindow w e pruning room) 37 refused
+      ∙ a-refused-window-has-its-number w (λ z. refused (sym is ∙ z)) [] e pruning room 0 0 .1 ∙ is
+
+  pub strict-decide-of-a-refused-log : (start : List ℕ) → length start ≡ 64 → (e pruning order table : ℕ)
+      → decideStrictCode log start begin end drift e pruning order table ≡ loadNumber log
+  unfolding decideStrictCode
+  strict-decide-of-a-refused-log start l e pruning order table =
+      let w = strictWindow log (valuesIn start) begin end drift in
+      let is = refused-number log (valuesIn start) begin end drift (values-32 start) refused in
+      sym
+      (start-taken _ 36 start l (loadNumber log)
+      (sym
+      (where-unasked log begin end (windowCode w e pruning order table) 37 refused
+      ∙ a-refused-window-has-its-number w (λ z. refused (sym is ∙ z)) [] e pruning 0 order table .2 ∙ is)))
+
+-- ---- What Encode writes, read back. Of a window that Load takes, in a setting that is taken, in a list with room, the bytes hold the polygraph of its history: the
+-- count, the row words and the constraints left, each at its place. The list is as long as it was, and behind the last constraint it is as it was.
+
+pub a-taken-window-is-written : (w : Window) → windowNumber w ≡ 0 → (e pruning : ℕ) → settingRefusal e pruning ≡ 0 → (out : List ℕ)
+    → 130 + 10 * encodedCount (windowHistory w) e pruning ≤ length out → Polygraphed (windowHistory w) e pruning out (encodeWindowAfter w e pruning out)
+a-taken-window-is-written w z e pruning setting out room = written w z e pruning setting out room
+
+-- So it is wherever 0 is returned: of a window, of a log alone, and of a log with the bytes of its times.
+pub a-window-with-0-is-written : (w : Window) (e pruning : ℕ) (out : List ℕ) → encodeWindow w e pruning (length out) ≡ 0
+    → Polygraphed (windowHistory w) e pruning out (encodeWindowAfter w e pruning out)
+unfolding encodeWindow
+a-window-with-0-is-written w e pruning out q =
+    ⊎-elim
+    (λ (z : windowNumber w ≡ 0).
+    let code : polygraphCode (encodeAnswer (loadedCase w) e pruning 4096 32) (length out) ≡ 0 =
+    sym (ap (λ b. cond b (polygraphCode (encodeAnswer (loadedCase w) e pruning 4096 32) (length out)) (windowNumber w)) (eq-eqb (windowNumber w) 0 z)) ∙ q in
+    ⊎-elim
+    (λ (s : settingRefusal e pruning ≡ 0).
+    a-taken-window-is-written w z e pruning s out
+    (go (ltb (length out) (130 + 10 * encodedCount (windowHistory w) e pruning)) (nltb→le (length out) (130 + 10 * encodedCount (windowHistory w) e pruning))
+    (sym (encoded-code w z e pruning s (length out)) ∙ code)))
+    (λ (s : settingRefusal e pruning ≡ 12). absurd (omega (arith, encoded-refused w z e pruning s (length out), code)))
+    (setting-either e pruning))
+    (λ (f : windowNumber w ≢ 0). absurd (f (sym (a-refused-window-has-its-number w f [] e pruning (length out) 0 0 .1) ∙ q)))
+    (same? (windowNumber w) 0)
+  where
+    go : {X : Type 0} (b : Bool) → (T (not b) → X) → _≡_ {A = ℕ} (cond b 25 0) 0 → X
+    go true f r = absurd (omega arith)
+    go false f r = f tt
+
+pub encode-with-0-writes-the-polygraph : (log : List ℕ) (e pruning : ℕ) (out : List ℕ) → encodeCode log e pruning (length out) ≡ 0
+    → Polygraphed (historyOf log) e pruning out (encodeAfter log e pruning out)
+encode-with-0-writes-the-polygraph log e pruning out q =
+    subst (λ (h : History). Polygraphed h e pruning out (encodeAfter log e pruning out)) (timed-none log 0) (a-window-with-0-is-written (fromZeros log) e pruning out q)
+
+pub strict-encode-with-0-writes-the-polygraph : (log begin end : List ℕ) (drift e pruning : ℕ) (out : List ℕ) → encodeStrictCode log begin end drift e pruning (length out) ≡ 0
+    → Polygraphed (windowHistory (strictWindow log zeros begin end drift)) e pruning out (encodeStrictAfter log begin end drift e pruning out)
+unfolding encodeStrictCode encodeStrictAfter
+strict-encode-with-0-writes-the-polygraph log begin end drift e pruning out =
+    let w = strictWindow log zeros begin end drift in
+    chosen-done (encodeWindow w e pruning (length out)) 37 (encodeWindowAfter w e pruning out) out (Polygraphed (windowHistory w) e pruning out)
+    (implies (eqb (loadNumber log) 0) (fourEach (transactionsIn log) begin end)) (λ q. omega (arith, q)) (a-window-with-0-is-written w e pruning out)
+
+-- ---- What Decide writes. Where it returns 0, the order that it leaves is the first legal one of the window's history, with its times, and the table the one that
+-- this order's replay leaves from the window's start; no other byte of the two lists is changed.
+
+pub a-decided-window-is-written : (w : Window) (e pruning : ℕ) (order table : List ℕ) → windowCode w e pruning (length order) (length table) ≡ 0
+    → Ordered (windowHistory w) (transactionsIn (w .bytes)) (w .starting) order table
+    (windowOrder w e pruning order (length table)) (windowTable w e pruning (length order) table)
+a-decided-window-is-written w e pruning order table z = ordered w e pruning order table z
+
+-- of a log alone, from 32 zeros
+pub decide-writes-the-first-legal-order : (log : List ℕ) (e pruning : ℕ) (order table : List ℕ) → decideCode log e pruning (length order) (length table) ≡ 0
+    → Ordered (historyOf log) (transactionsIn log) zeros order table (orderAfter log e pruning order (length table)) (tableAfter log e pruning (length order) table)
+decide-writes-the-first-legal-order log e pruning order table z =
+    subst
+    (λ (h : History). Ordered h (transactionsIn log) zeros order table (orderAfter log e pruning order (length table)) (tableAfter log e pruning (length order) table))
+    (timed-none log 0) (ordered (fromZeros log) e pruning order table z)
+
+-- from a start; that it has 64 bytes is said by the 0
+pub decide-from-writes-the-first-legal-order : (log start : List ℕ) (e pruning : ℕ) (order table : List ℕ) → decideFromCode log start e pruning (length order) (length table) ≡ 0
+    → Ordered (historyOf log) (transactionsIn log) (valuesIn start) order table
+    (decideFromOrder log start e pruning order (length table)) (decideFromTable log start e pruning (length order) table)
+unfolding decideFromCode decideFromOrder decideFromTable
+decide-from-writes-the-first-legal-order log start e pruning order table z = go (eqb (length start) 64) z
+  where
+    w : Window
+    w = startWindow log start
+
+    order′ : List ℕ
+    order′ = windowOrder w e pruning order (length table)
+
+    table′ : List ℕ
+    table′ = windowTable w e pruning (length order) table
+
+    go : (b : Bool) → cond b (windowCode w e pruning (length order) (length table)) 36 ≡ 0
+        → Ordered (historyOf log) (transactionsIn log) (valuesIn start) order table (cond b order′ order) (cond b table′ table)
+    go true z =
+        subst (λ (h : History). Ordered h (transactionsIn log) (valuesIn start) order table order′ table′) (timed-none log 0) (ordered w e pruning order table z)
+    go false z = absurd (omega (arith, z))
+
+-- from a start and with times: of any bytes, by the seconds in them
+pub strict-decide-writes-by-its-bytes : (log start begin end : List ℕ) (drift e pruning : ℕ) (order table : List ℕ)
+    → decideStrictCode log start begin end drift e pruning (length order) (length table) ≡ 0
+    → Ordered (timedHistory log (times (secondsIn begin) (secondsIn end) drift)) (transactionsIn log) (valuesIn start) order table
+    (decideStrictOrder log start begin end drift e pruning order (length table)) (decideStrictTable log start begin end drift e pruning (length order) table)
+unfolding decideStrictCode decideStrictOrder decideStrictTable
+strict-decide-writes-by-its-bytes log start begin end drift e pruning order table z =
+    go (eqb (length start) 64) (implies (eqb (loadNumber log) 0) (fourEach (transactionsIn log) begin end)) z
+  where
+    w : Window
+    w = strictWindow log (valuesIn start) begin end drift
+
+    go : (a b : Bool) → cond a (cond b (windowCode w e pruning (length order) (length table)) 37) 36 ≡ 0
+        → Ordered (windowHistory w) (transactionsIn log) (valuesIn start) order table
+        (cond a (cond b (windowOrder w e pruning order (length table)) order) order) (cond a (cond b (windowTable w e pruning (length order) table) table) table)
+    go true true z = ordered w e pruning order table z
+    go true false z = absurd (omega (arith, z))
+    go false b z = absurd (omega (arith, z))
+
+-- and of seconds as bytes, by these seconds
+pub strict-decide-writes-the-first-legal-order : (log start begins ends : List ℕ) (drift : ℕ) → length start ≡ 64 → (e pruning : ℕ) (order table : List ℕ)
+    → decideStrictCode log start (secondBytes begins) (secondBytes ends) drift e pruning (length order) (length table) ≡ 0
+    → Ordered (timedHistory log (times begins ends drift)) (transactionsIn log) (valuesIn start) order table
+    (decideStrictOrder log start (secondBytes begins) (secondBytes ends) drift e pruning order (length table))
+    (decideStrictTable log start (secondBytes begins) (secondBytes ends) drift e pruning (length order) table)
+strict-decide-writes-the-first-legal-order log start begins ends drift l e pruning order table z =
+    let w = window log (valuesIn start) (times begins ends drift) in
+    let by = strict-decide-goes-by-its-window log start begins ends drift l e pruning order table in
+    let o = ordered w e pruning order table (sym (by .0) ∙ z) in
+    record {
+      first = o .first;
+      is-first = o .is-first;
+      count = o .count;
+      fits = o .fits;
+      order-is = by .1 ∙ o .order-is;
+      wide = o .wide;
+      values = ap valuesIn (by .2) ∙ o .values;
+      rest = ap (drop 64) (by .2) ∙ o .rest;
+      long = ap length (by .2) ∙ o .long;
+    }

@@ -7,4 +7,6 @@ pub mod Starting
 pub mod Strict
 pub mod Bytes
 pub mod Room
+pub mod Reading
+pub mod Ordering
 pub mod Demands

@@ -7,15 +7,18 @@ use native.Mathlib.Omega.{arith}
 use mathlib.Core.Path.{_≡_, refl, sym, ap, ap₂, subst, _∙_}
 use mathlib.Core.Logic.{inl, inr, ⊎-elim, _≢_}
 use mathlib.Core.Bool.{Bool, true, false, cond, _&&_}
-use mathlib.Core.List.{List}
+use mathlib.Core.List.{List, _++_, append-nil}
 use mathlib.Core.Option.{Option, none, some}
 use lib.Dec.{eqb, ltb}
+use lib.ListN.{length, drop, replicate, length-replicate}
 use borrow.Author.Tests.{eq-eqb, ne-eqb, le-ltb}
 use Rattle.model.specs.History.{History, isOrder, legal, size}
 use Rattle.model.specs.Window.{Window, windowNumber, windowHistory}
 use Rattle.model.specs.Log.{transactionsIn}
 use Rattle.model.specs.Search.{firstLegal}
-use Rattle.model.specs.Lent.{encodedCount}
+use Rattle.model.specs.Lent.{noConstraint, encodedList, encodedRows, encodedCount}
+use Rattle.model.specs.Polygraph.{polygraph}
+use Rattle.model.specs.declared.Constraint.{Constraint}
 use Rattle.model.proofs.Basics.{same?}
 use Rattle.model.proofs.Counting.{constraints-timed}
 use Rattle.model.proofs.First.{first-some}
@@ -32,12 +35,13 @@ use Rattle.checker.specs.declared.Case.{Case}
 use Rattle.checker.specs.declared.Decision.{Decision}
 use Rattle.checker.specs.Cases.{historyIn, stageOf, loadedCase}
 use Rattle.checker.specs.Calls.{checkRefusal, checkYes, checking}
-use Rattle.checker.specs.Encodings.{encodeRefusal, encodeAnswer}
+use Rattle.checker.specs.Encodings.{encodeRefusal, encodeAnswer, encodeList, encodeRows}
 use Rattle.checker.specs.Decisions.{decideRefusal, decided, decidedCase, refusedDecision, deciding}
 use Rattle.checker.proofs.Chain.{refused, load-holds, load-window, load-stage, decided-contents, ordered-number, some-stage}
 use Rattle.checker.proofs.Demands.{four-thousand-ninety-six-places-are-enough}
 use Rattle.checker.proofs.Whole.{decision-is}
-use Rattle.codes.specs.Codes.{judgementCode, roomCode, decidePlaces, decisionOf, saidCode, windowCode, polygraphCode, encodeWindow}
+use Rattle.codes.specs.Codes.{judgementCode, roomCode, decidePlaces, decisionOf, saidCode, windowCode, polygraphCode, polygraphAfter, sentCode, sentAfter, encodeWindow}
+use Rattle.codes.specs.Images.{polygraphIn}
 use Rattle.codes.proofs.Timing.{Told}
 
 module _ (w : Window) (taken : windowNumber w ≡ 0) (e pruning : ℕ) where
@@ -144,6 +148,33 @@ module _ (w : Window) (taken : windowNumber w ≡ 0) (e pruning : ℕ) where
       let is = number-reply (encodeRefusal c e pruning 4096 32) ∙ encode-number ∙ setting in
       ap (λ b. cond b (cond (ltb room (130 + 10 * a .left)) 25 0) (numberOf (a .reply))) (ne-eqb (numberOf (a .reply)) 0 (λ z. omega (arith, z, is))) ∙ is
 
+  pub encoded-kept : settingRefusal e pruning ≡ 12 → (out : List ℕ) → polygraphAfter c e pruning out ≡ out
+  unfolding polygraphAfter
+  encoded-kept setting out =
+      ap (λ n. cond (eqb n 0) (polygraphIn (encodeAnswer c e pruning 4096 32 .left) (encodeRows c e pruning 4096 (replicate 32 0)) (encodeList c e pruning (replicate 4096 noConstraint) 32) out) out)
+      (encoded-refused setting (length out))
+
+  -- what Encode leaves as bytes is what is sent of the window's history, on a list that is long enough for any
+  pub encoded-list : settingRefusal e pruning ≡ 0 → (out : List ℕ) → polygraphAfter c e pruning out ≡ sentAfter (windowHistory w) e pruning out
+  unfolding polygraphAfter sentAfter sentCode encodeAnswer encodeRows encodeList encodedRows
+  encoded-list setting out =
+      let runs = encode-number ∙ setting in
+      let list-runs : encodeRefusal c e pruning (length ys) 32 ≡ 0 = ap (λ n. encodeRefusal c e pruning n 32) (length-replicate 4096 noConstraint) ∙ runs in
+      ap (λ n. cond (eqb n 0) (image (eqb (encodeRefusal c e pruning 4096 32) 0) (eqb (encodeRefusal c e pruning (length ys) 32) 0) (historyIn c) out) out) (encoded-code setting (length out))
+      ∙ ap₂ (λ a b. sent (image a b (historyIn c) out) out) (eq-eqb (encodeRefusal c e pruning 4096 32) 0 runs) (eq-eqb (encodeRefusal c e pruning (length ys) 32) 0 list-runs)
+      ∙ ap (λ h. sent (image true true h out) out) here
+      ∙ ap (λ rs. sent (polygraphIn (encodedCount (windowHistory w) e pruning) rs (encodedList (windowHistory w) e pruning ys) out) out) (append-nil (polygraph (windowHistory w) e pruning .known))
+    where
+      ys : List Constraint
+      ys = replicate 4096 noConstraint
+
+      image : Bool → Bool → History → List ℕ → List ℕ
+      image a b h out′ =
+          polygraphIn (cond a (encodedCount h e pruning) 0) (cond a (polygraph h e pruning .known ++ drop 32 (replicate 32 0)) (replicate 32 0)) (cond b (encodedList h e pruning ys) ys) out′
+
+      sent : List ℕ → List ℕ → List ℕ
+      sent x y = cond (eqb (cond (ltb (length out) (130 + 10 * encodedCount (windowHistory w) e pruning)) 25 0) 0) x y
+
   -- 130 bytes and 10 for each of at most 4,096 constraints
   encoded-room : (room : ℕ) → 41090 ≤ room → _≡_ {A = ℕ} (cond (ltb room (130 + 10 * encodedCount (windowHistory w) e pruning)) 25 0) 0
   unfolding encodedCount
@@ -189,6 +220,16 @@ checked-code w taken o =
     code f i l = judgementCode (judgementOf (number f i) (eqb (number f i) 0 && l))
 
     go : (i l : Bool) → code false i l ≡ cond i (cond l 0 255) 13
+    go true true = refl
+    go true false = refl
+    go false l = refl
+
+-- what is judged over a log's bytes, as a number
+pub judged-code : (n : ℕ) (h : History) (o : List ℕ) → judgementCode (judgementOf (orderRefusal n o) (legal h o)) ≡ cond (isOrder n o) (cond (legal h o) 0 255) 13
+unfolding orderRefusal judgementOf
+judged-code n h o = go (isOrder n o) (legal h o)
+  where
+    go : (i l : Bool) → judgementCode (judgementOf (cond i 0 13) l) ≡ cond i (cond l 0 255) 13
     go true true = refl
     go true false = refl
     go false l = refl

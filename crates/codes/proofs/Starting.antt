@@ -109,7 +109,7 @@ values-32 start = length-upTo (λ i. pairAt start (2 * i)) 32
 -- ---- a table as it is written
 
 -- the two bytes of a value, and those of others
-pair-here : (at v : ℕ) (out : List ℕ) → at + 2 ≤ length out → pairAt (pairBytes at v out) at ≡ v
+pub pair-here : (at v : ℕ) (out : List ℕ) → at + 2 ≤ length out → pairAt (pairBytes at v out) at ≡ v
 unfolding pairAt pairBytes
 pair-here at v out room =
     let one = set out at (v % 256) in

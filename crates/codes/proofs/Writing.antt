@@ -5,17 +5,17 @@ use Prim.Native.Nat.{ℕ, _+_, _*_, _<_, _≤_}
 use native.Mathlib.Omega.{arith}
 use mathlib.Core.Bool.{cond}
 use mathlib.Core.List.{List}
-use lib.Dec.{ltb}
+use lib.Dec.{eqb}
 use lib.ListN.{length, replicate}
 use borrow.Author.Tests.{eq-eqb, ne-eqb, lt-ltb, le-ltb}
-use Rattle.model.specs.Lent.{noConstraint}
+use Rattle.model.specs.declared.Constraint.{Constraint}
+use Rattle.model.specs.History.{History}
+use Rattle.model.specs.Polygraph.{polygraph}
+use Rattle.model.specs.Lent.{noConstraint, encodedList, encodedCount}
 use Rattle.checker.specs.declared.Case.{Case}
-use Rattle.checker.specs.declared.Encoding.{Encoding}
-use Rattle.answers.specs.Numbers.{numberOf}
-use Rattle.checker.specs.Encodings.{encodeAnswer, encodeList, encodeRows}
 use Rattle.checker.specs.Results.{orderRefused, orderLeft, tableLeft}
 use Rattle.lender.specs.Packing.{packed}
-use Rattle.codes.specs.Codes.{roomCode, orderOf, tableOf, polygraphCode, polygraphAfter}
+use Rattle.codes.specs.Codes.{roomCode, orderOf, tableOf, sentCode, sentAfter}
 use Rattle.codes.specs.Images.{filled, valueIn, rowIn, wordsIn, constraintIn, pairBytes, polygraphIn}
 use Rattle.codes.proofs.Filling.{filled-same, constraint-packed}
 
@@ -60,43 +60,29 @@ module _ (c : Case) (order table : List ℕ) where
 
 -- ---- a polygraph
 
-module _ (c : Case) (e pruning : ℕ) (out : List ℕ) (r : Encoding) (n : ℕ) (answer : r ≡ encodeAnswer c e pruning 4096 32) (is : n ≡ numberOf (r .reply)) where
-  abbrev a : Encoding
-  a = encodeAnswer c e pruning 4096 32
+-- the code, and the list after it
+abbrev pub Sends : History → ℕ → ℕ → List ℕ → ℕ → List ℕ → Type 0
+Sends h e pruning out m out′ = (m ≡ sentCode h e pruning (length out)) × (out′ ≡ sentAfter h e pruning out)
 
-  abbrev image : List ℕ
-  image = polygraphIn (a .left) (encodeRows c e pruning 4096 (replicate 32 0)) (encodeList c e pruning (replicate 4096 noConstraint) 32) out
+module _ (h : History) (e pruning : ℕ) (out : List ℕ) (n : ℕ) (is : n ≡ encodedCount h e pruning) where
+  abbrev ys : List Constraint
+  ys = encodedList h e pruning (replicate 4096 noConstraint)
 
-  abbrev pub Encoded : ℕ → List ℕ → Type 0
-  Encoded m out′ = (m ≡ polygraphCode a (length out)) × (out′ ≡ polygraphAfter c e pruning out)
+  abbrev image : ℕ → List ℕ
+  image m = polygraphIn m (polygraph h e pruning .known) ys out
 
-  kept-out : (m : ℕ) → m ≡ polygraphCode a (length out) → (m ≡ 0 → ⊥) → Encoded m out
-  unfolding polygraphAfter
-  kept-out m q not0 = (q, sym (ap (λ b. cond b image out) (ne-eqb (polygraphCode a (length out)) 0 (λ z. not0 (q ∙ z)))))
+  pub out-short : length out < 130 + 10 * n → Sends h e pruning out 25 out
+  unfolding sentCode sentAfter
+  out-short l =
+      let q : sentCode h e pruning (length out) ≡ 25 = ap {B = ℕ} (λ b. cond b 25 0) (lt-ltb (length out) (130 + 10 * encodedCount h e pruning) (omega (arith, is, l))) in
+      (sym q, sym (ap (λ k. cond (eqb k 0) (image (encodedCount h e pruning)) out) q))
 
-  number-is : n ≡ numberOf (a .reply)
-  number-is = is ∙ ap (λ x. numberOf (x .reply)) answer
-
-  pub encode-refused : (n ≡ 0 → ⊥) → Encoded n out
-  unfolding polygraphCode
-  encode-refused not0 = kept-out n (number-is ∙ sym (ap (λ b. cond b (cond (ltb (length out) (130 + 10 * a .left)) 25 0) (numberOf (a .reply))) (ne-eqb (numberOf (a .reply)) 0 (λ z. not0 (number-is ∙ z))))) not0
-
-  room-code : n ≡ 0 → polygraphCode a (length out) ≡ cond (ltb (length out) (130 + 10 * r .left)) 25 0
-  unfolding polygraphCode
-  room-code z = ap (λ b. cond b (cond (ltb (length out) (130 + 10 * a .left)) 25 0) (numberOf (a .reply))) (eq-eqb (numberOf (a .reply)) 0 (sym number-is ∙ z)) ∙ ap {B = ℕ} (λ x. cond (ltb (length out) (130 + 10 * x .left)) 25 0) (sym answer)
-
-  pub out-short : n ≡ 0 → length out < 130 + 10 * r .left → Encoded 25 out
-  out-short z l = kept-out 25 (sym (room-code z ∙ ap {B = ℕ} (λ b. cond b 25 0) (lt-ltb (length out) (130 + 10 * r .left) l))) (λ q. absurd (omega (arith, q)))
-
-  pub out-written : (rows words out′ : List ℕ) → n ≡ 0 → 130 + 10 * r .left ≤ length out → rows ≡ encodeRows c e pruning 4096 (replicate 32 0)
-      → words ≡ packed (r .left) (encodeList c e pruning (replicate 4096 noConstraint) 32) (replicate 16384 0) → r .left ≤ 4096
-      → out′ ≡ filled (wordsIn words) (r .left) (filled (rowIn rows) 32 (pairBytes 0 (r .left) out)) → Encoded 0 out′
-  unfolding polygraphAfter polygraphIn
-  out-written rows words out′ z l rs ws few o =
-      let zero-code : polygraphCode a (length out) ≡ 0 = room-code z ∙ ap {B = ℕ} (λ b. cond b 25 0) (le-ltb (length out) (130 + 10 * r .left) l) in
-      let cs = encodeList c e pruning (replicate 4096 noConstraint) 32 in
-      let whole : out′ ≡ image =
-      o ∙ filled-same (wordsIn words) (constraintIn cs) (r .left) (λ i less x. constraint-packed (r .left) cs words ws few i less x) (filled (rowIn rows) 32 (pairBytes 0 (r .left) out))
-      ∙ ap (λ g. filled (constraintIn cs) (r .left) (filled (rowIn g) 32 (pairBytes 0 (r .left) out))) rs
-      ∙ ap (λ x. filled (constraintIn cs) (x .left) (filled (rowIn (encodeRows c e pruning 4096 (replicate 32 0))) 32 (pairBytes 0 (x .left) out))) answer in
-      (sym zero-code, whole ∙ sym (ap (λ b. cond b image out) (eq-eqb (polygraphCode a (length out)) 0 zero-code)))
+  pub out-written : 130 + 10 * n ≤ length out → n ≤ 4096 → (rows words out′ : List ℕ) → rows ≡ polygraph h e pruning .known → words ≡ packed n ys (replicate 16384 0)
+      → out′ ≡ filled (wordsIn words) n (filled (rowIn rows) 32 (pairBytes 0 n out)) → Sends h e pruning out 0 out′
+  unfolding sentCode sentAfter polygraphIn
+  out-written l few rows words out′ rs ws o =
+      let q : sentCode h e pruning (length out) ≡ 0 = ap {B = ℕ} (λ b. cond b 25 0) (le-ltb (length out) (130 + 10 * encodedCount h e pruning) (omega (arith, is, l))) in
+      let whole : out′ ≡ image (encodedCount h e pruning) =
+      o ∙ filled-same (wordsIn words) (constraintIn ys) n (λ i less x. constraint-packed n ys words ws few i less x) (filled (rowIn rows) 32 (pairBytes 0 n out))
+      ∙ ap (λ g. filled (constraintIn ys) n (filled (rowIn g) 32 (pairBytes 0 n out))) rs ∙ ap image is in
+      (sym q, whole ∙ sym (ap (λ k. cond (eqb k 0) (image (encodedCount h e pruning)) out) q))

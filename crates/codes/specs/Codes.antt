@@ -6,10 +6,12 @@ use mathlib.Core.List.{List}
 use lib.Dec.{eqb, ltb}
 use lib.ListN.{length, replicate}
 use Rattle.model.specs.Lists.{implies}
+use Rattle.model.specs.History.{History}
+use Rattle.model.specs.Polygraph.{polygraph}
 use Rattle.model.specs.Log.{transactionsIn, loadNumber, orElse}
 use Rattle.model.specs.Times.{times, noTimes}
 use Rattle.model.specs.Window.{Window, window, windowNumber, zeros, fromZeros}
-use Rattle.model.specs.Lent.{noConstraint}
+use Rattle.model.specs.Lent.{noConstraint, encodedList, encodedCount}
 use Rattle.checker.specs.declared.Case.{Case}
 use Rattle.checker.specs.declared.Decision.{Decision}
 use Rattle.checker.specs.declared.Encoding.{Encoding}
@@ -65,7 +67,7 @@ orderOf c order table = cond (eqb (roomCode c (length order) table) 0) (orderLef
 unfoldable pub tableOf : Case → ℕ → List ℕ → List ℕ
 tableOf c order table = cond (eqb (roomCode c order (length table)) 0) (filled (valueIn (tableLeft c (replicate 32 0))) 32 table) table
 
--- the places of a list that has room for the constraints of any log (theorem `decide-gives`), and the decision on it
+-- the places of a list that has room for the constraints of any log (theorem `a-taken-window-is-decided`), and the decision on it
 abbrev pub decidePlaces : ℕ
 decidePlaces = 4096
 
@@ -102,12 +104,22 @@ windowTable w e pruning order table = whereLoaded w (saidTable (decisionOf w e p
 unfoldable pub polygraphCode : Encoding → ℕ → ℕ
 polygraphCode r room = cond (eqb (numberOf (r .reply)) 0) (cond (ltb room (130 + 10 * r .left)) 25 0) (numberOf (r .reply))
 
--- the polygraph by Encode, on lists that have room for any (theorem `encode-gives`), as bytes
+-- the polygraph by Encode, on lists that have room for any (theorem `a-taken-window-is-encoded`), as bytes
 unfoldable pub polygraphAfter : Case → ℕ → ℕ → List ℕ → List ℕ
 polygraphAfter c e pruning out =
     let r = encodeAnswer c e pruning 4096 32 in
     cond (eqb (polygraphCode r (length out)) 0)
     (polygraphIn (r .left) (encodeRows c e pruning 4096 (replicate 32 0)) (encodeList c e pruning (replicate 4096 noConstraint) 32) out)
+    out
+
+-- The same of a history's polygraph in a setting that is taken, without a case.
+unfoldable pub sentCode : History → ℕ → ℕ → ℕ → ℕ
+sentCode h e pruning room = cond (ltb room (130 + 10 * encodedCount h e pruning)) 25 0
+
+unfoldable pub sentAfter : History → ℕ → ℕ → List ℕ → List ℕ
+sentAfter h e pruning out =
+    cond (eqb (sentCode h e pruning (length out)) 0)
+    (polygraphIn (encodedCount h e pruning) (polygraph h e pruning .known) (encodedList h e pruning (replicate 4096 noConstraint)) out)
     out
 
 unfoldable pub encodeWindow : Window → ℕ → ℕ → ℕ → ℕ

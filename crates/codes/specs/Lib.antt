@@ -1,2 +1,4 @@
 pub mod Codes
 pub mod Images
+pub mod Read
+pub mod Told

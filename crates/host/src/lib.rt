@@ -1,5 +1,5 @@
-// The checker for callers in C, on numbers and bytes. Check and Encode take a fresh case through the calls; Decide goes over the log's bytes as the call on
-// the case does, without one. The strict functions take a begin and an end for each transaction, as bytes, and a drift; the others are for windows without times.
+// The checker for callers in C, on numbers and bytes. Each function goes over the log's bytes as the call on the case does, without a case. The strict functions
+// take a begin and an end for each transaction, as bytes, and a drift; the others are for windows without times.
 // A slice passes as a pointer and a length.
 // include/beaconcrumb.h says what each gives; the contracts say it as equations with the definitions of `codes`, which are made of the calls' own.
 ghost use mathlib.Core.Path.{_≡_};
@@ -7,22 +7,20 @@ ghost use mathlib.Core.Bool.{true};
 ghost use Prim.Native.Nat.{ℕ};
 ghost use lib.Dec.{T};
 ghost use lib.ListN.{length, take};
-ghost use Rattle.model.specs.History.{isOrder};
+ghost use Rattle.model.specs.History.{History, isOrder};
 ghost use Rattle.model.specs.Log.{loadNumber, transactionsIn};
 ghost use Rattle.model.specs.Times.{Times, times, timedNumber};
-ghost use Rattle.model.specs.Window.{window, windowNumber, zeros};
-ghost use Rattle.checker.specs.Cases.{loadedCase};
-ghost use Rattle.answers.specs.Numbers.{numberOf};
-ghost use Rattle.checker.specs.Encodings.{encodeAnswer};
-ghost use Rattle.codes.specs.Codes.{judgementCode, roomCode, orderOf, tableOf, orderedCase, foundDecision, saidCode, saidOrder, saidTable, polygraphCode, polygraphAfter};
+ghost use Rattle.model.specs.Window.{window, zeros};
+ghost use Rattle.encoding.specs.Writing.{Planned};
+ghost use Rattle.lender.specs.Sending.{PlanFor};
+ghost use Rattle.codes.specs.Codes.{judgementCode, roomCode, orderOf, tableOf, orderedCase, foundDecision, saidCode, saidOrder, saidTable, sentCode, sentAfter};
 ghost use Rattle.codes.specs.Codes.{checkWindow, windowCode, windowOrder, windowTable, encodeWindow, encodeWindowAfter};
 ghost use Rattle.codes.specs.Codes.{checkCode, decideCode, orderAfter, tableAfter, decideFromCode, decideFromOrder, decideFromTable, encodeCode, encodeAfter};
 ghost use Rattle.codes.specs.Codes.{lengthsNumber, checkStrictCode, decideStrictCode, decideStrictOrder, decideStrictTable, encodeStrictCode, encodeStrictAfter};
+use answers::Judgement;
 use answers::copies::copy_bytes;
+use answers::settings::setting_refusal;
 use answers::windows::timed_number;
-use checker::Answer;
-use checker::Case;
-use checker::Judgement;
 use finding::Outcome;
 use finding::decided;
 use listing::PLACES;
@@ -42,19 +40,8 @@ fn judged(j: Judgement) -> u32
     }
 }
 
-// A log and its times in a fresh case, from 32 zeros.
-fn loaded(log: &[u8], begin: &[u32], end: &[u32], drift: u32) -> Answer
-    ensures number { λ r. ⌜ numberOf (r .reply) ≡ windowNumber (window (now (log .entry)) zeros (times (now (begin .entry)) (now (end .entry)) drift)) ⌝ }
-    ensures taken { λ r. ⌜ (windowNumber (window (now (log .entry)) zeros (times (now (begin .entry)) (now (end .entry)) drift)) ≡ 0
-        → r .case ≡ loadedCase (window (now (log .entry)) zeros (times (now (begin .entry)) (now (end .entry)) drift))) ⌝ }
-{
-    let c = Case::fresh();
-    let zeros = [0u16; 32];
-    c.load(log, &zeros, begin, end, drift)
-}
-
-// The number for which the bytes of times are not read, or 0. Two empty lists are none; of others the log's number comes first, then 37 where they don't both
-// have four bytes for each transaction.
+// The number for which the bytes of times are not read, or 0. For two empty lists it is 0, and the log is not looked at; for others the log's number comes first, then
+// 37 where they don't both have four bytes for each transaction.
 fn lengths_refused(log: &[u8], begin: &[u8], end: &[u8]) -> u32
     ensures { λ r. ⌜ r ≡ lengthsNumber (now (log .entry)) (now (begin .entry)) (now (end .entry)) ⌝ }
 {
@@ -78,15 +65,11 @@ fn lengths_refused(log: &[u8], begin: &[u8], end: &[u8]) -> u32
 fn check(log: &[u8], begin: &[u32], end: &[u32], drift: u32, order: &[u8]) -> u32
     ensures { λ r. ⌜ r ≡ checkWindow (window (now (log .entry)) zeros (times (now (begin .entry)) (now (end .entry)) drift)) (now (order .entry)) ⌝ }
 {
-    let a = loaded(log, begin, end, drift);
-    let reply = a.reply;
-    let refused = reply.number() as u32;
+    let refused = timed_number(log, begin, end, drift) as u32;
     if refused != 0 {
         return refused;
     }
-    let c = a.case;
-    let j = c.check(order);
-    let judgement = j.judgement;
+    let judgement = answers::judging::judged(log, begin, end, drift, order);
     judged(judgement)
 }
 
@@ -95,12 +78,13 @@ fn check(log: &[u8], begin: &[u32], end: &[u32], drift: u32, order: &[u8]) -> u3
 pub extern "C" fn beaconcrumb_check(log: &[u8], order: &[u8]) -> u32
     ensures { λ r. ⌜ r ≡ checkCode (now (log .entry)) (now (order .entry)) ⌝ }
 {
-    let zeros = [0u32; 32];
+    let zeros = [0u32; 1];
     let none = &zeros[..0];
     check(log, none, none, 0, order)
 }
 
-// The same of a log and the bytes of its times: 37 behind the log's numbers, where begin and end are neither both empty nor both of four bytes for each transaction.
+// The same of a log and the bytes of its times: 37 behind the log's numbers, where begin and end are neither both empty nor both of four bytes for each transaction, and
+// then 38, as Load.
 #[no_mangle]
 pub extern "C" fn beaconcrumb_check_strict(
     log: &[u8],
@@ -219,7 +203,7 @@ pub extern "C" fn beaconcrumb_decide(
     ensures order { λ _. ⌜ now (order .exit) ≡ orderAfter (now (log .entry)) encoding pruning (now (order .entry)) (length (now (table .entry))) ⌝ }
     ensures table { λ _. ⌜ now (table .exit) ≡ tableAfter (now (log .entry)) encoding pruning (length (now (order .entry))) (now (table .entry)) ⌝ }
 {
-    let zeros = [0u32; 32];
+    let zeros = [0u32; 1];
     let none = &zeros[..0];
     decide(log, [0; 32], none, none, 0, encoding, pruning, order, table)
 }
@@ -281,31 +265,34 @@ pub extern "C" fn beaconcrumb_decide_from(
     ensures order { λ _. ⌜ now (order .exit) ≡ decideFromOrder (now (log .entry)) (now (start .entry)) encoding pruning (now (order .entry)) (length (now (table .entry))) ⌝ }
     ensures table { λ _. ⌜ now (table .exit) ≡ decideFromTable (now (log .entry)) (now (start .entry)) encoding pruning (length (now (order .entry))) (now (table .entry)) ⌝ }
 {
-    let zeros = [0u8; 32];
+    let zeros = [0u8; 1];
     let none = &zeros[..0];
     beaconcrumb_decide_strict(log, start, none, none, 0, encoding, pruning, order, table)
 }
 
 // ---- Encode
 
-// The polygraph of a case, in a list of bytes, or the number with which it is refused and nothing.
-fn encoded(c: Case, encoding: u8, pruning: u8, out: &mut [u8]) -> u32
-    ensures result { λ r. ⌜ r ≡ polygraphCode (encodeAnswer c encoding pruning 4096 32) (length (now (out .entry))) ⌝ }
-    ensures list { λ _. ⌜ now (out .exit) ≡ polygraphAfter c encoding pruning (now (out .entry)) ⌝ }
+// The polygraph that was planned, in a list of bytes: 0, or 25 and nothing.
+fn sent<'a, 'b>(
+    tables: &'a [u32; WORDS],
+    chosen: &'a [u16; PLACES],
+    rows: [u32; 32],
+    n: u16,
+    pruning: u8,
+    out: &'b mut [u8],
+) -> u32
+    requires { ⌜ PlanFor (now tables) (now chosen) rows n ⌝ }
+    ensures result { λ r. ⌜ ((h : History) (e : ℕ) → Planned h e (now (tables .entry)) (now (chosen .entry)) rows n → r ≡ sentCode h e pruning (length (now (out .entry)))) ⌝ }
+    ensures list { λ _. ⌜ ((h : History) (e : ℕ) → Planned h e (now (tables .entry)) (now (chosen .entry)) rows n → now (out .exit) ≡ sentAfter h e pruning (now (out .entry))) ⌝ }
 {
-    let mut rows = [0u32; 32];
     let mut words = [0u32; LIST_WORDS];
-    let e = lender::encode(c, encoding, pruning, &mut rows, &mut words);
-    let reply = e.reply;
-    let refused = reply.number() as u32;
-    if refused != 0 {
-        return refused;
-    }
-    let left = e.left;
+    let r = lender::written(tables, chosen, rows, n, pruning, &mut words);
+    let left = r.left as usize;
     if out.len() < 130 + 10 * left {
         return 25;
     }
-    images::put_polygraph(left, &rows, &words, out);
+    let known = r.rows;
+    images::put_polygraph(left, &known, &words, out);
     0
 }
 
@@ -322,14 +309,19 @@ fn encode(
     ensures result { λ r. ⌜ r ≡ encodeWindow (window (now (log .entry)) zeros (times (now (begin .entry)) (now (end .entry)) drift)) encoding pruning (length (now (out .entry))) ⌝ }
     ensures list { λ _. ⌜ now (out .exit) ≡ encodeWindowAfter (window (now (log .entry)) zeros (times (now (begin .entry)) (now (end .entry)) drift)) encoding pruning (now (out .entry)) ⌝ }
 {
-    let a = loaded(log, begin, end, drift);
-    let reply = a.reply;
-    let refused = reply.number() as u32;
+    let refused = timed_number(log, begin, end, drift) as u32;
     if refused != 0 {
         return refused;
     }
-    let c = a.case;
-    encoded(c, encoding, pruning, out)
+    let setting = setting_refusal(encoding, pruning) as u32;
+    if setting != 0 {
+        return setting;
+    }
+    let mut tables = [0u32; WORDS];
+    let mut chosen = [0u16; PLACES];
+    let known = encoding::prepare(log, begin, end, drift, encoding, &mut tables, &mut chosen);
+    let rows = known.rows;
+    sent(&tables, &chosen, rows, known.count, pruning, out)
 }
 
 // The same of a log alone, without times.
@@ -338,12 +330,12 @@ pub extern "C" fn beaconcrumb_encode(log: &[u8], encoding: u8, pruning: u8, out:
     ensures result { λ r. ⌜ r ≡ encodeCode (now (log .entry)) encoding pruning (length (now (out .entry))) ⌝ }
     ensures list { λ _. ⌜ now (out .exit) ≡ encodeAfter (now (log .entry)) encoding pruning (now (out .entry)) ⌝ }
 {
-    let zeros = [0u32; 32];
+    let zeros = [0u32; 1];
     let none = &zeros[..0];
     encode(log, none, none, 0, encoding, pruning, out)
 }
 
-// The same of a log and the bytes of its times, with 37 as for Check.
+// The same of a log and the bytes of its times, with 37 and 38 as for Check.
 #[no_mangle]
 pub extern "C" fn beaconcrumb_encode_strict(
     log: &[u8],

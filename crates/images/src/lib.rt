@@ -61,7 +61,7 @@ fn word(bytes: &[u8], at: usize) -> u32
     (low + 65536 * high) as u32
 }
 
-// The seconds that at most 128 bytes hold, four bytes each. Behind them are zeros.
+// The seconds that at most 128 bytes hold, four bytes each; what stands behind them in the array plays no part.
 pub fn seconds(bytes: &[u8]) -> [u32; 32]
     requires { ⌜ length (now bytes) ≤ 128 ⌝ }
     ensures { λ r. ⌜ take (length (now (bytes .entry)) / 4) r ≡ secondsIn (now (bytes .entry)) ⌝ }

@@ -1,16 +1,19 @@
--- What is shown of a list fits it: the count that Encode gives is at most that of the places.
+-- What is shown of a list fits it: the count that Encode gives is at most that of the places, and that of a polygraph that was planned at most 4,096.
 -- Assumes nothing.
 use mathlib.Core.Path.{_≡_}
 use Prim.Native.Nat.{ℕ, zero-le, _≤_}
+use mathlib.Core.List.{List}
 use native.Mathlib.Nat.{le-trans}
 use native.Mathlib.Omega.{arith}
 use mathlib.Core.Bool.{Bool, true, false, not, cond}
 use lib.Dec.{T, eqb, eqb→eq, ltb, nltb→le}
 use lib.ListN.{length}
+use Rattle.model.specs.History.{History}
 use Rattle.model.specs.Polygraph.{constraints, polygraph}
 use Rattle.model.specs.Lent.{encodedCount}
 use Rattle.model.proofs.Basics.{eqb-ne}
 use Rattle.model.proofs.Pruning.{polygraph-length}
+use Rattle.encoding.specs.Writing.{Planned}
 use Rattle.checker.specs.declared.Case.{Case}
 use Rattle.checker.specs.Cases.{historyIn, stageOf}
 use Rattle.answers.specs.Stages.{isFresh}
@@ -40,3 +43,7 @@ left-within c e pruning places words = go (eqb (encodeRefusal c e pruning places
     go : (b : Bool) → (T b → encodeRefusal c e pruning places words ≡ 0) → cond b (length (polygraph (historyIn c) e pruning .choices)) 0 ≤ places
     go true p = le-trans (polygraph-length (historyIn c) e pruning) (counted-within c e pruning places words (p tt))
     go false p = zero-le
+
+pub planned-within : (h : History) (e pruning : ℕ) (tables chosen rs : List ℕ) (n : ℕ) → Planned h e tables chosen rs n → encodedCount h e pruning ≤ 4096
+unfolding encodedCount
+planned-within h e pruning tables chosen rs n p = omega (arith, polygraph-length h e pruning, p .chosen-are .count-is, p .chosen-are .low)

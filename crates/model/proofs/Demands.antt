@@ -35,7 +35,8 @@ use Rattle.model.proofs.ReadBacks.{behind, backs-own, explained-sees}
 use Rattle.model.proofs.Basics.{and-r, eq-T}
 use Rattle.model.proofs.Legal.{reads-small, bad-in, good-other, legal-out}
 use Rattle.model.proofs.Known.{Loadable, kinds-out}
-use Rattle.model.proofs.Pruning.{polygraph-iff, legal-iff, polygraph-done}
+use Rattle.model.proofs.Pruning.{polygraph-iff, legal-iff, polygraph-done, polygraph-keeps}
+use Rattle.model.proofs.Words.{bit-rows}
 use Rattle.model.proofs.Selection.{serializable, selections-kept, rows-reached}
 use Rattle.model.proofs.First.{first-some, first-none}
 use Rattle.model.proofs.Tails.{tail-final}
@@ -238,6 +239,14 @@ pub known-edges-of-the-clock : (b : List ℕ) (ts : Times) (e u v : ℕ) → let
     edge (timedHistory b ts) e u v ≡ (edge h e u v || (ltb u (size h) && (ltb v (size h) && endedBefore ts u v)))
 known-edges-of-the-clock b ts = timed-edge (historyOf b) (log-untimed b) ts
 
+-- (the row words have exactly the known edges before pruning, and pruning takes none away) ..
+pub row-words-have-the-known-edges : (h : History) (e u v : ℕ) → u < 32 → v < 32 → has (rows h e) u v ≡ edge h e u v
+unfolding rows
+row-words-have-the-known-edges h e u v hu hv = bit-rows (edge h e) u v hu hv
+
+pub pruning-keeps-the-known-edges : (h : History) (e pruning u v : ℕ) → u < 32 → v < 32 → T (edge h e u v) → T (has (polygraph h e pruning .known) u v)
+pruning-keeps-the-known-edges h e pruning u v hu hv t = polygraph-keeps h e pruning u v hu hv t
+
 -- .. and an order is legal exactly where it is one that keeps each cabinet's own order and that of the times, and has every read explained.
 pub legal-with-times : (b : List ℕ) (ts : Times) (o : List ℕ) → let h = historyOf b in
     legal (timedHistory b ts) o ≡ (isOrder (size h) o && ((keepsCabinets h o && keepsClock ts (size h) o) && everyReadExplained h o))
@@ -283,6 +292,12 @@ module _ (b : List ℕ) (ts : Times) (taken : timedNumber b ts ≡ 0) where
 
   pub the-clock-is-known : (e u v : ℕ) → u < transactionsIn b → v < transactionsIn b → getD (ts .ends) u 0 + ts .drift < getD (ts .begins) v 0 → T (edge h e u v)
   the-clock-is-known = log-edge b ts taken
+
+  -- so the words that Encode hands out have it, in each of the six settings
+  pub the-clock-is-handed-out : (e pruning u v : ℕ) → u < transactionsIn b → v < transactionsIn b → getD (ts .ends) u 0 + ts .drift < getD (ts .begins) v 0
+      → T (has (polygraph h e pruning .known) u v)
+  the-clock-is-handed-out e pruning u v hu hv t =
+      pruning-keeps-the-known-edges h e pruning u v (omega (arith, fit .few, timed-log-size b ts)) (omega (arith, fit .few, timed-log-size b ts)) (the-clock-is-known e u v hu hv t)
 
   pub the-clock-is-kept : (o : List ℕ) → T (legal h o) → (u v : ℕ) → u < transactionsIn b → v < transactionsIn b → getD (ts .ends) u 0 + ts .drift < getD (ts .begins) v 0
       → Before o u v

@@ -17,6 +17,7 @@ use Rattle.model.proofs.Reach.{within-tidy, reach-way}
 use Rattle.model.proofs.Legal.{writes-small, reads-small, good-reads, good-writes}
 use Rattle.model.proofs.Known.{Loadable, edge-small}
 use Rattle.model.proofs.Central.{central, head-writes, tail-small}
+use Rattle.model.proofs.Closed.{old-edge}
 
 -- a path goes forward in an order that respects the edges
 pub way-forward : (o g : List ℕ) → Tidy g → RespectsKnown o g → (u v : ℕ) → Way g u v → place u o < place v o
@@ -344,3 +345,27 @@ polygraph-length h e pruning =
     let q = passes (length (constraints h e)) (unpruned h e) in
     either (λ (r : Polygraph). length (r .choices) ≤ length (constraints h e)) (eqb pruning 1) q (unpruned h e)
     (passes-length (length (constraints h e)) (unpruned h e)) (omega arith)
+
+-- ---- pruning takes no known edge away
+
+pub pass-keeps : (cs : List Constraint) (g : List ℕ) (u v : ℕ) → u < 32 → v < 32 → T (has g u v) → T (has (pass g cs .known) u v)
+unfolding pass
+pass-keeps [] g u v hu hv t = t
+pass-keeps (c ∷ cs) g u v hu hv t =
+    cases g c cs (λ p. T (has (p .known) u v)) (λ _. pass-keeps cs (gB g c cs) u v hu hv (old-edge g (c .fromB) (c .toB) u v hu hv t))
+    (λ _. pass-keeps cs (gA g c cs) u v hu hv (old-edge g (c .fromA) (c .toA) u v hu hv t)) (pass-keeps cs g u v hu hv t)
+
+pub passes-keep : (m : ℕ) (p : Polygraph) (u v : ℕ) → u < 32 → v < 32 → T (has (p .known) u v) → T (has (passes m p .known) u v)
+unfolding passes
+passes-keep zero p u v hu hv t = t
+passes-keep (suc m) p u v hu hv t =
+    let q = pass (p .known) (p .choices) in
+    let l = pass-keeps (p .choices) (p .known) u v hu hv t in
+    either (λ (r : Polygraph). T (has (r .known) u v)) (eqb (length (q .choices)) (length (p .choices))) q (passes m q) l (passes-keep m q u v hu hv l)
+
+pub polygraph-keeps : (h : History) (e pruning u v : ℕ) → u < 32 → v < 32 → T (edge h e u v) → T (has (polygraph h e pruning .known) u v)
+unfolding polygraph rows
+polygraph-keeps h e pruning u v hu hv t =
+    let x : T (has (rows h e) u v) = eq-T (sym (bit-rows (edge h e) u v hu hv)) t in
+    either (λ (r : Polygraph). T (has (r .known) u v)) (eqb pruning 1) (passes (length (constraints h e)) (unpruned h e)) (unpruned h e)
+    (passes-keep (length (constraints h e)) (unpruned h e) u v hu hv x) x

@@ -158,7 +158,7 @@ sentBefore h u v = ltb u v && eqb (cabinetOf h u) (cabinetOf h v)
 abbrev pub endsBefore : History → ℕ → ℕ → Bool
 endsBefore h u v = ltb (untilOf h u) (beginOf h v)
 
--- What a legal order keeps besides its reads: u before v wherever their cabinet sent u first, or u ended before v began.
+-- What a legal order keeps besides its reads: u before v wherever their cabinet sent u first, or u ended, with the drift added, before v began.
 abbrev pub mustPrecede : History → ℕ → ℕ → Bool
 mustPrecede h u v = sentBefore h u v || endsBefore h u v
 

@@ -7,6 +7,7 @@ ghost use mathlib.Core.List.{[]};
 ghost use Prim.Native.Nat.{ℕ, _+_, _*_, _-_, _<_, _≤_};
 ghost use lib.Bits.{bitOr};
 ghost use lib.Dec.{T, ltb};
+ghost use lib.ListN.{replicate};
 ghost use Rattle.model.specs.Lists.{bit};
 ghost use Rattle.search.specs.Constraints.{isOpen, Given, Fit, Dropped};
 ghost use Rattle.search.specs.Steps.{PartialOrder};
@@ -191,16 +192,14 @@ fn open_word(n: u16, w: usize) -> u32
     numbers(k as u32)
 }
 
-// The first n constraints are open.
-fn all_open(n: u16) -> [u32; 128]
-    requires { ⌜ n ≤ 4096 ⌝ }
-    ensures { λ r. ⌜ ((i : ℕ) → isOpen r i ≡ ltb i n) ⌝ }
+// The first n constraints are open, in a set that was empty. It is lent, since a set of 512 bytes that is returned is copied.
+fn all_open(n: u16, out: &mut [u32; 128])
+    requires { ⌜ (n ≤ 4096) × (now out ≡ replicate 128 0) ⌝ }
+    ensures { λ _. ⌜ ((i : ℕ) → isOpen (now (out .exit)) i ≡ ltb i n) ⌝ }
 {
-    let mut out = [0; 128];
     for w in 0..(n as usize + 31) / 32 {
         out[w] = open_word(n, w);
     }
-    out
 }
 
 // Whether a constraint is an edge against the same edge turned round.
@@ -227,20 +226,19 @@ fn drop_if(left: &mut [u32; 128], i: usize, goes: bool)
     }
 }
 
-// The open constraints without those: every order has one of their two sides, and pruning adds nothing by them. The search goes on without them.
-fn lighter(left: [u32; 128], words: &[u32], n: u16) -> [u32; 128]
-    requires { ⌜ Fit left n × Given (now words) n ⌝ }
-    ensures { λ r. ⌜ Lighter (now (words .entry)) left r ⌝ }
+// Those go from the open constraints: every order has one of their two sides, and pruning adds nothing by them. The search goes on without them.
+fn lighter(left: &mut [u32; 128], words: &[u32], n: u16)
+    requires { ⌜ Fit (now left) n × Given (now words) n ⌝ }
+    ensures { λ _. ⌜ Lighter (now (words .entry)) (now (left .entry)) (now (left .exit)) ⌝ }
 {
-    let mut l = left;
     let mut i: usize = 0;
     loop {
-        let j = crate::next_open(&l, i, n);
+        let j = crate::next_open(left, i, n);
         if j >= n as usize {
-            return l;
+            return;
         }
         let k = crate::constraint_at(words, j);
-        drop_if(&mut l, j, opposite(k));
+        drop_if(left, j, opposite(k));
         i = j + 1;
     }
 }
@@ -250,7 +248,8 @@ pub fn first_closed(rows: [u32; 32], words: &[u32], n: u16, t: usize) -> Found
     requires { ⌜ Asked t (now words) n rows × PartialOrder rows ⌝ }
     ensures { λ r. ⌜ Answered t (now (words .entry)) n rows (r .found) (r .order) ⌝ }
 {
-    let mut left = all_open(n);
+    let mut left = [0; 128];
+    all_open(n, &mut left);
     let p = crate::prune(rows, &mut left, words, n);
     let stuck = p.stuck;
     if stuck {
@@ -260,17 +259,17 @@ pub fn first_closed(rows: [u32; 32], words: &[u32], n: u16, t: usize) -> Found
         };
     }
     let d = p.rows;
-    let light = lighter(left, words, n);
+    lighter(&mut left, words, n);
     let set = numbers(t as u32);
-    if crate::next_open(&light, 0, n) >= n as usize {
+    if crate::next_open(&left, 0, n) >= n as usize {
         let order = lowest_first(d, set, t);
         return Found { found: true, order };
     }
-    let a = crate::walk(d, &light, words, n);
+    let a = crate::walk(d, &left, words, n);
     let found = a.found;
     if found {
         let sel = a.rows;
-        let order = fill(d, light, sel, set, words, n, t);
+        let order = fill(d, left, sel, set, words, n, t);
         return Found { found: true, order };
     }
     Found {

@@ -6,6 +6,7 @@ pub mod Lending
 pub mod Locals
 pub mod Parts
 pub mod Prelude
+pub mod RowBoth
 pub mod Sharing
 pub mod Slices
 pub mod Turns

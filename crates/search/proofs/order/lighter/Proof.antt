@@ -13,10 +13,10 @@ use Rattle.search.proofs.order.drop_if.Reads as drop-if-reads
 use Rattle.search.proofs.order.opposite.Reads as opposite-reads
 
 abbrev Inv-loop : tie.InvT-loop
-Inv-loop words n l₀ i₀ l i = (i ≤ n) × Lighter words l₀ l
+Inv-loop left₀ words n i₀ left i = (i ≤ n) × Lighter words left₀ left
 
 abbrev μ-loop : tie.MeasureT-loop
-μ-loop words n l₀ i₀ l i = n - i
+μ-loop left₀ words n i₀ left i = n - i
 
 loop-holds : tie.Need-loop-holds Inv-loop μ-loop
 loop-holds c = (omega arith, lighter-none _ _)
