@@ -134,7 +134,8 @@ fn main() {
         }
     }
     println!("Microseconds: of {PROCESSES} processes the least mean, and the median of the ratios to the first build.\n");
-    println!("| call | {} |", words.iter().map(|word| word.as_str()).collect::<Vec<_>>().join(" | ratio | "));
+    let heads: Vec<String> = words.iter().enumerate().map(|(b, word)| if b == 0 { word.clone() } else { format!("{word} | ratio") }).collect();
+    println!("| call | {} |", heads.join(" | "));
     println!("{}|", "| --- ".repeat(2 * words.len()));
     for (name, means) in &rows {
         let cells: Vec<String> = (0..words.len())
