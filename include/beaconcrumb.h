@@ -8,7 +8,7 @@
  * Of the caller is asked what C can't test: a pointer has as many bytes as the length after it says, and is not null even where that length is 0,
  * and a buffer that a call writes to overlaps nothing else that the call is given.
  *
- * Stack: beaconcrumb_decide, beaconcrumb_decide_from and beaconcrumb_decide_strict take at most some 840 KB, most of it in the search, and the others at most some 180 KB
+ * Stack: beaconcrumb_decide, beaconcrumb_decide_from and beaconcrumb_decide_strict take at most some 700 KB, most of it in the search, and the others at most some 180 KB
  * (docs/DECISIONS.md), so a thread that calls one should have 4 MB.
  *
  * In a transaction a key may be read, then written, then read back: a read after the write names its own transaction and is explained by that write.

@@ -1,7 +1,7 @@
 // The functions for C, called by place, with their arguments in the order of include/beaconcrumb.h: codes, and what they write, worked out by hand. The gate runs no
 // program in C, and contracts speak of arguments by name; so this is what notices if two of one type change places.
 // The window is document 01's C, two transactions that write key 0, with values 7 and 9. By its times 1, from second 5 to 255, ends before 0 begins, from second 256 to
-// 70,000. With the lists exchanged each begin is after its end; with the low bytes exchanged 1 would not end before 0 begins.
+// 70,000. With the lists exchanged each begin is after its end; with the low bytes exchanged 1 would not end before 0 begins. Times of other lengths than 8 bytes each, or none, are 37.
 use host::beaconcrumb_check;
 use host::beaconcrumb_check_strict;
 use host::beaconcrumb_decide;
@@ -182,7 +182,62 @@ fn strict_polygraph(begin: &[u8], end: &[u8], drift: u32, pruning: u8) {
     show(b"  constraint:", strict, &eleven);
 }
 
-// In turn: as they are, with a drift of 1, and with the lists exchanged.
+// The three strict functions with times of these lengths: 37 where they are neither both empty nor both of 8 bytes, and what is shown of the buffers is then as it was.
+fn lengths(begin: &[u8], end: &[u8]) {
+    let s = start();
+    let forward = [0u8, 1];
+    let mut order = [99u8; 3];
+    let mut table = [98u8; 65];
+    let mut out = [97u8; 141];
+    show(
+        b"lengths, check:",
+        beaconcrumb_check_strict(&LOG, begin, end, 0, &forward),
+        b"",
+    );
+    let decided = beaconcrumb_decide_strict(&LOG, &s, begin, end, 0, 2, 1, &mut order, &mut table);
+    show(b"  decide:", decided, &order);
+    let four = low(table);
+    show(b"  table:", decided, &four);
+    let encoded = beaconcrumb_encode_strict(&LOG, begin, end, 0, 1, 0, &mut out);
+    let ten = front(out);
+    show(b"  encode:", encoded, &ten);
+}
+
+// A log of 3 bytes, which is tested before its times, with a start, which is tested before it.
+fn first_tests(start: &[u8]) {
+    let log = [2u8, 0, 2];
+    let begin = [0u8; 9];
+    let end = [0u8; 7];
+    let mut order = [99u8; 3];
+    let mut table = [98u8; 65];
+    let code = beaconcrumb_decide_strict(
+        &log,
+        start,
+        &begin,
+        &end,
+        3601,
+        2,
+        1,
+        &mut order,
+        &mut table,
+    );
+    show(b"log of 3 bytes:", code, &order);
+}
+
+// Lengths for one transaction and for three, one list empty, a byte too few, a byte too many; none at all.
+fn all_lengths() {
+    let begin = [0u8; 12];
+    let end = [0u8; 12];
+    lengths(&begin[..4], &end[..4]);
+    lengths(&begin, &end);
+    lengths(&begin[..8], &end[..0]);
+    lengths(&begin[..0], &end[..8]);
+    lengths(&begin[..7], &end[..8]);
+    lengths(&begin[..8], &end[..9]);
+    lengths(&begin[..0], &end[..0]);
+}
+
+// In turn: as they are, with a drift of 1, and with the lists exchanged; then the lengths, and what is tested before the times.
 fn main() {
     checks();
     decisions();
@@ -195,4 +250,7 @@ fn main() {
     strict_polygraph(&BEGIN, &END, 0, 1);
     strict_polygraph(&BEGIN, &END, 1, 0);
     strict_polygraph(&END, &BEGIN, 0, 0);
+    all_lengths();
+    first_tests(&[0; 63]);
+    first_tests(&[0; 64]);
 }

@@ -62,8 +62,9 @@ pub fn prepare(
     let mut reads = [0u32; 256];
     let read = polygraph::decode(log, &mut writers, &mut reads);
     let mut marks = [0u32; MARKS];
-    polygraph::read_marks(&reads, read, &writers, &mut marks);
-    let mut rows = polygraph::known(log, n, encoding, &reads, read, &writers, &marks);
+    let mut slots = [0u16; 256];
+    polygraph::read_marks(&reads, read, &writers, &mut slots, &mut marks);
+    let mut rows = polygraph::known(log, n, encoding, &reads, read, &slots, &writers, &marks);
     polygraph::clock::add(begin, end, drift, &mut rows);
     let count = choose(log, n, encoding, &writers, &marks, tables, chosen);
     Known { rows, count }

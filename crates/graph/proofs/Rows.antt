@@ -1,7 +1,7 @@
 -- The words that the loops make are those of the model's definitions; closed words. Assumes nothing.
-use Prim.Native.Nat.{ℕ, zero, suc, _+_, _*_, _%_, _^_, _≤_, _<_}
+use Prim.Native.Nat.{ℕ, zero, suc, _+_, _-_, _*_, _%_, _^_, _≤_, _<_}
 use native.Mathlib.Omega.{arith}
-use native.Mathlib.Nat.{one-mul, mod-eq-of-lt}
+use native.Mathlib.Nat.{zero-add, suc-add, one-mul, mod-eq-of-lt}
 use mathlib.Core.Path.{_≡_, refl, sym, ap, ap₂, subst, _∙_}
 use mathlib.Core.Logic.{_⊎_, inl, inr, ⊎-elim, _≢_}
 use mathlib.Core.Bool.{Bool, true, false, not, cond, _&&_, _||_}
@@ -17,10 +17,11 @@ use Rattle.model.proofs.Basics.{eq-T, iff-eq, and-l, and-r, and-in, or-out, or-
 use Rattle.model.proofs.Words.{word-lt, getD-upTo, length-upTo, bit-rows, rows-small}
 use Rattle.model.proofs.Masks.{bit-or, bit-and, bit-one, bit-none, word-bits, same-bits, side-row, through-row, length-through}
 use Rattle.model.specs.RowWords.{Tidy, cyclic}
-use Rattle.model.proofs.Reach.{rounds, rounds-suc, rounds-all, way-join, way-small, way-reach, reach-way, reach-old}
+use Rattle.model.proofs.Reach.{through-out, through-old, rounds, rounds-suc, rounds-all, rounds-way, way-join, way-small, way-reach, reach-way, reach-old}
 use Rattle.model.proofs.Loops.{any-bit, closed-mask}
 use Rattle.model.proofs.Closed.{reach-side}
 use Rattle.graph.specs.Bodies.{pointed, absorbed, extendedRow}
+use Rattle.graph.specs.Leaving.{LeavesBelow}
 
 -- every word has at most 32 bits
 abbrev pub Small : List ℕ → Type 0
@@ -89,6 +90,41 @@ reach-tidy g = tidy (reach g) (reach-length g) (reach-small g)
 pub side-tidy : (g : List ℕ) (from to : ℕ) → Tidy (withSide g from to)
 unfolding withSide
 side-tidy g from to u v t = rows-small (λ u v. has g u v || (bit from u && eqb v to)) u v t
+
+-- ---- rounds through nodes that no edge leaves
+
+through-none : (g : List ℕ) (m : ℕ) → length g ≡ 32 → Small g → ((v : ℕ) → T (has g m v) → ⊥) → through g m ≡ g
+through-none g m l s none =
+    rows-ext (through g m) g (length-through g m) l (through-small g m) s
+    (λ u v hu hv. iff-eq (has (through g m) u v) (has g u v) (λ t. ⊎-elim (λ a. a) (λ a. absurd (none v (a .1))) (through-out g m u v hu hv t)) (through-old g m u v hu hv))
+
+way-leaves : (g : List ℕ) (n : ℕ) → LeavesBelow g n → (u v : ℕ) → Way g u v → u < n
+way-leaves g n f u v (Way.step t) = f u v t
+way-leaves g n f u v (Way.more {v = w} t p) = f u w t
+
+pub leaves-fewer : (g : List ℕ) (n : ℕ) → LeavesBelow g (n + 1) → getD g n 0 ≡ 0 → LeavesBelow g n
+leaves-fewer g n f z u v t =
+    ⊎-elim (λ (e : u ≡ n). absurd (clash (bit 0 v) (subst (λ (w : ℕ). T (bit w v)) z (subst (λ (x : ℕ). T (has g x v)) e t)) (subst (λ (b : Bool). T (not b)) (sym (bit-none v)) tt)))
+    (λ (e : u ≢ n). let l = f u v t in omega arith)
+    (same? u n)
+
+-- where edges leave nodes below n alone, the rounds from n on change nothing
+module _ (g : List ℕ) (n : ℕ) (long : length g ≡ 32) (small : Small g) (leaves : LeavesBelow g n) where
+  rounds-words : (k : ℕ) → (length (rounds g k) ≡ 32) × Small (rounds g k)
+  rounds-words zero = (long, small)
+  rounds-words (suc k) = subst (λ (r : List ℕ). (length r ≡ 32) × Small r) (sym (rounds-suc g k)) (length-through (rounds g k) k, through-small (rounds g k) k)
+
+  rounds-still : (d : ℕ) → rounds g (d + n) ≡ rounds g n
+  rounds-still zero = ap (rounds g) (zero-add n)
+  rounds-still (suc d) =
+      let w = rounds-words (d + n) in
+      ap (rounds g) (suc-add d n)
+      ∙ rounds-suc g (d + n)
+      ∙ through-none (rounds g (d + n)) (d + n) (w .0) (w .1) (λ v t. omega (arith, way-leaves g n leaves (d + n) v (rounds-way g (d + n) (d + n) v t)))
+      ∙ rounds-still d
+
+  pub rounds-below : (k : ℕ) → k ≡ n → n ≤ 32 → rounds g k ≡ reach g
+  rounds-below k e few = ap (rounds g) e ∙ sym (rounds-still (32 - n)) ∙ rounds-all g (32 - n + n) (omega arith)
 
 -- closed words are closed already
 reach-steps : (g : List ℕ) (u v : ℕ) → Way (reach g) u v → Way g u v

@@ -1,3 +1,4 @@
 pub mod Masks
 pub mod Bodies
 pub mod Members
+pub mod Leaving

@@ -1,11 +1,12 @@
-// Directed graphs on 32 nodes, as 32 row words by value: bit v of word u stands for the edge from u to v.
+// Directed graphs on 32 nodes, as 32 row words: bit v of word u stands for the edge from u to v. They are taken and returned by value, but for `take`, which changes them in place.
 // `Closed words' are those of `reach`: bit v of word u stands for a path of one or more edges from u to v.
 ghost use mathlib.Core.Path.{_≡_};
 ghost use mathlib.Core.List.{List};
-ghost use Prim.Native.Nat.{ℕ, _<_};
+ghost use Prim.Native.Nat.{ℕ, _<_, _≤_};
 ghost use Rattle.model.specs.Polygraph.{withSide, through, reach, closedOff};
 ghost use Rattle.model.specs.RowWords.{Tidy, «cyclic», sideIn};
 ghost use Rattle.graph.specs.Bodies.{pointed, absorbed, extendedRow};
+ghost use Rattle.graph.specs.Leaving.{LeavesBelow};
 
 pub mod mask;
 
@@ -53,12 +54,27 @@ fn stage(k: usize, rows: [u32; 32]) -> [u32; 32]
     out
 }
 
-// The closed words of the graph.
+// Below which number all nodes are that an edge leaves.
+fn top(rows: [u32; 32]) -> usize
+    ensures { λ r. ⌜ (r ≤ 32) × LeavesBelow rows r ⌝ }
+{
+    let mut n: usize = 32;
+    while n > 0 {
+        if rows[n - 1] != 0 {
+            return n;
+        }
+        n -= 1;
+    }
+    n
+}
+
+// The closed words of the graph. Rounds through nodes that no edge leaves change nothing.
 pub fn closure(rows: [u32; 32]) -> [u32; 32]
     ensures { λ r. ⌜ r ≡ reach rows ⌝ }
 {
+    let n = top(rows);
     let mut out = rows;
-    for k in 0..32 {
+    for k in 0..n {
         let next = stage(k, out);
         out = next;
     }

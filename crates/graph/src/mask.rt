@@ -1,6 +1,6 @@
 // Sets of nodes below 32, as words: bit v stands for v.
 ghost use mathlib.Core.Path.{_≡_};
-ghost use mathlib.Core.Bool.{not, _&&_};
+ghost use mathlib.Core.Bool.{not, cond, _&&_};
 ghost use Prim.Native.Nat.{ℕ, _<_, _^_};
 ghost use lib.Bits.{bitOr};
 ghost use lib.Count.{trailingZeros};
@@ -14,6 +14,14 @@ pub fn has(mask: u32, v: u32) -> bool
     ensures { λ r. ⌜ r ≡ bit mask v ⌝ }
 {
     (mask >> v) & 1 == 1
+}
+
+// The same as a number, 1 or 0: where the answer is hard to guess, arithmetic costs less than a branch.
+pub fn member(mask: u32, v: u32) -> u32
+    requires { ⌜ v < 32 ⌝ }
+    ensures { λ r. ⌜ r ≡ cond (bit mask v) 1 0 ⌝ }
+{
+    (mask >> v) & 1
 }
 
 // The set `mask` with v.

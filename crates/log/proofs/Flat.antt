@@ -45,18 +45,18 @@ flat-start b n =
 
 module _ (b : List ℕ) (n : ℕ) (p : GoodEntries b n) (i reads writes : ℕ) where
   -- the masks are dropped where a transaction starts
-  pub flat-begin : Flat b n i i reads writes → (x r w : ℕ) → x ≡ startsAt b n i → r ≡ cond (eqb x 0) reads 0 → w ≡ cond (eqb x 0) writes 0 → Flat b n (i + 1) i r w
-  flat-begin f x r w e q s =
+  pub flat-begin : Flat b n i i reads writes → (r w : ℕ) → r ≡ cond (eqb (startsAt b n i) 0) reads 0 → w ≡ cond (eqb (startsAt b n i) 0) writes 0 → Flat b n (i + 1) i r w
+  flat-begin f r w q s =
       ⊎-elim (λ (z : x ≡ 0). record {
         since = f .since;
         low = f .low;
-        last = λ t l k. f .last t l (omega (arith, starts-none b n i (sym e ∙ z) t l));
+        last = λ t l k. f .last t l (omega (arith, starts-none b n i z t l));
         whole = f .whole;
         reads-is = q ∙ ap (λ (y : Bool). cond y reads 0) (eq-eqb x 0 z) ∙ f .reads-is;
         writes-is = s ∙ ap (λ (y : Bool). cond y writes 0) (eq-eqb x 0 z) ∙ f .writes-is;
         good = f .good;
       })
-      (λ (z : x ≢ 0). let h = starts-some b n i (λ y. z (e ∙ y)) in
+      (λ (z : x ≢ 0). let h = starts-some b n i z in
       let none : i - i ≡ 0 = omega arith in
       record {
         since = i;
@@ -67,6 +67,9 @@ module _ (b : List ℕ) (n : ℕ) (p : GoodEntries b n) (i reads writes : ℕ) w
         writes-is = s ∙ ap (λ (y : Bool). cond y writes 0) (ne-eqb x 0 z) ∙ masks-start b i 1 ∙ ap (λ y. maskAt b i y 1) (sym none);
         good = f .good;
       }) (same? x 0)
+    where
+      x : ℕ
+      x = startsAt b n i
 
   -- one body more
   pub flat-next : Flat b n (i + 1) i reads writes → (o : Body) → o ≡ recordAt b i → faultsBy o n reads writes ≡ 0 → (key r w : ℕ) → key ≡ o .key % 32

@@ -1,6 +1,6 @@
 -- Where the transactions of a log start. Assumes nothing.
 --     starts-none, starts-some       what the count of the transactions that start at a body says
---     begun-start, begun-next        the table of these counts
+--     begun-start, begun-next        the table of where none starts
 --     starts-up, starts-whole        each transaction starts where the one before it ends, and none inside another
 use Prim.Native.Nat.{ℕ, zero, suc, _+_, _≤_, _<_}
 use native.Mathlib.Omega.{arith}
@@ -16,6 +16,7 @@ use Rattle.model.specs.Log.{countAt, startAt, countsBefore, entryNumber}
 use Rattle.model.proofs.Basics.{decide, same?}
 use Rattle.model.proofs.Loaded.{first-out, counts-suc, counts-mono, good-entry}
 use borrow.Author.Tests.{eq-eqb, ne-eqb}
+use Rattle.rules.specs.Tests.{keepWord}
 use Rattle.log.specs.Tests.{GoodEntries, startsAt, Begun}
 
 -- transaction t, which starts at body i
@@ -23,15 +24,6 @@ pub record StartsHere (b : List ℕ) (n i : ℕ) : Type 0 where
   pub which : ℕ
   pub below : which < n
   pub here : startAt b which ≡ i
-
-pub starts-low : (b : List ℕ) (n i : ℕ) → startsAt b n i ≤ n
-unfolding startsAt
-starts-low b zero i = omega arith
-starts-low b (suc n) i = omega (arith, starts-low b n i, one (eqb (startAt b n) i))
-  where
-    one : (x : Bool) → cond x 1 0 ≤ 1
-    one true = omega arith
-    one false = omega arith
 
 pub starts-none : (b : List ℕ) (n i : ℕ) → startsAt b n i ≡ 0 → (t : ℕ) → t < n → startAt b t ≢ i
 unfolding startsAt
@@ -52,22 +44,23 @@ starts-some b (suc n) i f =
     more s = record { which = s .which; below = omega (arith, s .below); here = s .here }
 
 -- the table of no transaction
-pub begun-start : (b : List ℕ) → Begun b 0 (replicate 257 0)
-unfolding startsAt
-begun-start b = record { size = refl; each = λ i l. getD-replicate 257 i 0 0 l }
+pub begun-start : (b : List ℕ) → Begun b 0 (replicate 257 4294967295)
+unfolding startsAt keepWord
+begun-start b = record { size = refl; each = λ i l. getD-replicate 257 i 4294967295 0 l }
 
 -- the table, with one transaction more
-pub begun-next : (b : List ℕ) (t s x : ℕ) (w : List ℕ) → Begun b t w → s ≡ startAt b t → s < 257 → x ≡ getD w s 0 + 1 → Begun b (t + 1) (set w s x)
-unfolding startsAt
-begun-next b t s x w g e l p =
-    subst (λ n. Begun b n (set w s x)) (sym (add-one t))
+pub begun-next : (b : List ℕ) (t s : ℕ) (w : List ℕ) → Begun b t w → s ≡ startAt b t → s < 257 → Begun b (t + 1) (set w s 0)
+unfolding startsAt keepWord
+begun-next b t s w g e l =
+    subst (λ n. Begun b n (set w s 0)) (sym (add-one t))
     (record {
-      size = length-set w s x ∙ g .size;
+      size = length-set w s 0 ∙ g .size;
       each = λ i k.
-          ⊎-elim (λ (q : i ≡ s). ap (λ j. getD (set w s x) j 0) q ∙ getD-set-same w s x 0 (omega (arith, g .size)) ∙ p
-          ∙ ap₂ (λ y z. y + z) (ap (λ j. getD w j 0) (sym q) ∙ g .each i k) (sym (ap {B = ℕ} (λ (y : Bool). cond y 1 0) (eq-eqb (startAt b t) i (sym e ∙ sym q)))))
-          (λ (q : i ≢ s). getD-set-other w s i x 0 q ∙ g .each i k
-          ∙ omega (arith, ap {B = ℕ} (λ (y : Bool). cond y 1 0) (ne-eqb (startAt b t) i (λ z. q (sym z ∙ sym e))))) (same? i s);
+          ⊎-elim (λ (q : i ≡ s). ap (λ j. getD (set w s 0) j 0) q ∙ getD-set-same w s 0 0 (omega (arith, g .size))
+          ∙ sym (ap keepWord (ne-eqb (startsAt b (suc t) i) 0 (λ z. absurd (omega (arith, z, ap {B = ℕ} (λ (y : Bool). cond y 1 0) (eq-eqb (startAt b t) i (sym e ∙ sym q))))))))
+          (λ (q : i ≢ s).
+          let same : startsAt b t i ≡ startsAt b (suc t) i = omega (arith, ap {B = ℕ} (λ (y : Bool). cond y 1 0) (ne-eqb (startAt b t) i (λ z. q (sym z ∙ sym e)))) in
+          getD-set-other w s i 0 0 q ∙ g .each i k ∙ ap (λ (n : ℕ). keepWord (eqb n 0)) same) (same? i s);
     })
 
 -- the transactions start one behind the other, each where the one before it ends

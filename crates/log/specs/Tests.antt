@@ -6,6 +6,7 @@ use lib.ListN.{length, getD}
 use mathlib.Core.Bool.{cond}
 use mathlib.Core.List.{List}
 use lib.Dec.{eqb, ltb}
+use Rattle.rules.specs.Tests.{keepWord}
 use Rattle.model.specs.Log.{transactionsIn, operationsIn, countAt, startAt, countsBefore, orElse, firstNumber, entryNumber, bodiesNumber}
 use Rattle.log.specs.Reading.{entryAt}
 use Rattle.log.specs.declared.view.Entry.{Entry}
@@ -41,7 +42,7 @@ unfoldable pub startsAt : List ℕ → ℕ → ℕ → ℕ
 startsAt b zero i = 0
 startsAt b (suc t) i = startsAt b t i + cond (eqb (startAt b t) i) 1 0
 
--- the counts of all bodies as a table, which has one place more: an empty transaction may start behind the last body
+-- where none starts, for all bodies, as a table of words; it has one place more: an empty transaction may start behind the last body
 pub record Begun (b : List ℕ) (n : ℕ) (w : List ℕ) : Type 0 where
   pub size : length w ≡ 257
-  pub each : (i : ℕ) → i < 257 → getD w i 0 ≡ startsAt b n i
+  pub each : (i : ℕ) → i < 257 → getD w i 0 ≡ keepWord (eqb (startsAt b n i) 0)

@@ -11,6 +11,7 @@ use rules::faults;
 use rules::kept;
 use rules::mark;
 use rules::mark_back;
+use rules::mark_write;
 use rules::number;
 
 // ---- body by body
@@ -62,16 +63,16 @@ fn first_refused(log: &[u8], n: usize, good: usize) -> u8
 
 // ---- all bodies at once
 
-// How many transactions start at each body, and behind the last one.
-fn begins(log: &[u8], n: usize) -> [u8; 257]
+// For each body, and behind the last one, a word with no bits where a transaction starts, and with all bits elsewhere.
+fn begins(log: &[u8], n: usize) -> [u32; 257]
     requires { ⌜ GoodEntries (now log) n ⌝ }
     ensures { λ r. ⌜ Begun (now (log .entry)) n r ⌝ }
 {
-    let mut out = [0u8; 257];
+    let mut out = [4294967295u32; 257];
     let mut t: usize = 0;
     while t < n {
         let start = entry_of(log, t).start as usize;
-        out[start] = out[start] + 1;
+        out[start] = 0;
         t += 1;
     }
     out
@@ -82,20 +83,20 @@ fn count_good(log: &[u8], n: usize, count: usize) -> usize
     requires { ⌜ GoodEntries (now log) n × (count ≡ operationsIn (now log)) ⌝ }
     ensures { λ r. ⌜ GoodTo (now (log .entry)) n r ⌝ }
 {
-    let starts = begins(log, n);
+    let keep = begins(log, n);
     let mut reads: u32 = 0;
     let mut writes: u32 = 0;
     let mut i: usize = 0;
     while i < count {
         let o = body_of(log, 0, i);
         let key = (o.key % 32) as u32;
-        let read = kept(reads, starts[i]);
-        let written = kept(writes, starts[i]);
+        let read = kept(reads, keep[i]);
+        let written = kept(writes, keep[i]);
         if faults(o, n, read, written) != 0 {
             return i;
         }
         reads = mark(read, o.kind, 0, key);
-        writes = mark(written, o.kind, 1, key);
+        writes = mark_write(written, o.kind, key);
         i += 1;
     }
     count

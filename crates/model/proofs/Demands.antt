@@ -23,7 +23,7 @@ use Rattle.model.specs.Polygraph.{goodRead, edge, successor, Linked, isH
 use Rattle.model.specs.Keys.{perOperation, countOn, constraintsOn}
 use Rattle.model.specs.Search.{firstLegal, LexLess}
 use Rattle.model.proofs.Loaded.{Bytes, operationOf, back-is, keys-good, well-formed}
-use Rattle.model.proofs.Times.{without-none, timed-none, number-none, untimed-edges, untimed-polygraph, untimed-legal, untimed-first, log-untimed, timed-operations, timed-constraints, timed-table, timed-edge, timed-legal, timed-log-size, timed-log, timed-times, times-good, loadable-timed, well-formed-timed, log-ends, log-edge}
+use Rattle.model.proofs.Times.{without-none, timed-none, number-none, untimed-edges, untimed-polygraph, untimed-legal, untimed-first, log-untimed, timed-operations, timed-constraints, timed-table, timed-edge, timed-legal, timed-log-size, timed-log, timed-times, times-good, loadable-timed, well-formed-timed, log-ends, log-edge, log-edges}
 use Rattle.model.proofs.Numbers.{numbers-listed, shorter-iff, longer-iff, body-iff, read-out, read-in, write-out, write-in}
 use Rattle.model.proofs.Windows.{number-by-log, number-by-times, timed-numbers, lists-iff, untimely-iff, number-of-log, table-iff, window-numbers}
 use Rattle.model.proofs.Values.{replay-at, start-iff, sees-start, start-seen, writers-values, named-values}
@@ -56,7 +56,7 @@ load-takes-only-laid-out b taken = laid-out b taken
 pub load-takes-every-well-formed : (b : List ℕ) → LaidOut b → T (wellFormed (historyOf b)) → loadNumber b ≡ 0
 load-takes-every-well-formed b laid good = takes b laid good
 
--- ---- what the numbers of a log tell: of any bytes, beside a starting table of 32 values and times that are taken
+-- ---- what the numbers of a log tell: of any bytes, beside a starting table of 32 values and, where the log is refused, any times
 
 -- The numbers of a log are 0, 1 to 11, 34 and 35.
 pub numbers-of-a-log : (b : List ℕ) → (loadNumber b ≤ 11) ⊎ ((loadNumber b ≡ 34) ⊎ (loadNumber b ≡ 35))
@@ -293,7 +293,12 @@ module _ (b : List ℕ) (ts : Times) (taken : timedNumber b ts ≡ 0) where
   pub the-clock-is-known : (e u v : ℕ) → u < transactionsIn b → v < transactionsIn b → getD (ts .ends) u 0 + ts .drift < getD (ts .begins) v 0 → T (edge h e u v)
   the-clock-is-known = log-edge b ts taken
 
-  -- so the words that Encode hands out have it, in each of the six settings
+  -- The known edges are the log's own and these, and no others.
+  pub known-edges-in-seconds : (e u v : ℕ) → u < transactionsIn b → v < transactionsIn b
+      → T (edge h e u v) ↔ (T (edge (historyOf b) e u v) ⊎ (getD (ts .ends) u 0 + ts .drift < getD (ts .begins) v 0))
+  known-edges-in-seconds = log-edges b ts taken
+
+  -- So the words that Encode hands out have an edge of the clock in each of the six settings.
   pub the-clock-is-handed-out : (e pruning u v : ℕ) → u < transactionsIn b → v < transactionsIn b → getD (ts .ends) u 0 + ts .drift < getD (ts .begins) v 0
       → T (has (polygraph h e pruning .known) u v)
   the-clock-is-handed-out e pruning u v hu hv t =

@@ -15,13 +15,13 @@ use Rattle.model.proofs.Words.{bit-rows, rows-small}
 
 -- one round, at nodes below 32
 module _ (g : List ℕ) (m u v : ℕ) (hu : u < 32) (hv : v < 32) where
-  through-out : T (has (through g m) u v) → T (has g u v) ⊎ (T (has g u m) × T (has g m v))
+  pub through-out : T (has (through g m) u v) → T (has g u v) ⊎ (T (has g u m) × T (has g m v))
   unfolding through
   through-out t =
       ⊎-elim (λ a. inl a) (λ a. inr (and-l (has g u m) (has g m v) a, and-r (has g u m) (has g m v) a))
       (or-out (has g u v) (has g u m && has g m v) (eq-T (bit-rows (λ u v. has g u v || (has g u m && has g m v)) u v hu hv) t))
 
-  through-old : T (has g u v) → T (has (through g m) u v)
+  pub through-old : T (has g u v) → T (has (through g m) u v)
   unfolding through
   through-old t =
       eq-T (sym (bit-rows (λ u v. has g u v || (has g u m && has g m v)) u v hu hv)) (or-l (has g u v) (has g u m && has g m v) t)
@@ -129,9 +129,12 @@ fold-way : (ms : List ℕ) (g : List ℕ) (u v : ℕ) → Way (fold through g ms
 fold-way [] g u v p = p
 fold-way (m ∷ ms) g u v p = through-way g m u v (fold-way ms (through g m) u v p)
 
+pub rounds-way : (g : List ℕ) (n u v : ℕ) → T (has (rounds g n) u v) → Way g u v
+rounds-way g n u v t = fold-way (upTo n) g u v (Way.step t)
+
 pub reach-way : (g : List ℕ) (u v : ℕ) → T (has (reach g) u v) → Way g u v
 unfolding reach
-reach-way g u v t = fold-way (upTo 32) g u v (Way.step t)
+reach-way g = rounds-way g 32
 
 -- the rounds as a loop makes them
 pub rounds-all : (g : List ℕ) (n : ℕ) → n ≡ 32 → rounds g n ≡ reach g

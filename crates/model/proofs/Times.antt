@@ -471,3 +471,30 @@ module _ (b : List ℕ) (ts : Times) where
         let h = timedHistory b ts in
         kinds-out h loadable-timed e (λ u v. T (edge h e u v)) (λ u v t. t) .times u v (omega (arith, timed-log-size)) (omega (arith, timed-log-size))
         (log-ends u v hu hv .1 l)
+
+    -- the known edges in seconds: the log's own, and these
+    pub log-edges : (e u v : ℕ) → u < transactionsIn b → v < transactionsIn b
+        → T (edge (timedHistory b ts) e u v) ↔ (T (edge (historyOf b) e u v) ⊎ (getD (ts .ends) u 0 + ts .drift < getD (ts .begins) v 0))
+    log-edges e u v hu hv = (out, back)
+      where
+        g : History
+        g = historyOf b
+
+        below : (t : ℕ) → t < transactionsIn b → t < size g
+        below t l = omega (arith, history-size b)
+
+        clocked : Bool
+        clocked = ltb u (size g) && (ltb v (size g) && endedBefore ts u v)
+
+        is : edge (timedHistory b ts) e u v ≡ (edge g e u v || clocked)
+        is = timed-edge g (log-untimed b) ts e u v
+
+        out : T (edge (timedHistory b ts) e u v) → T (edge g e u v) ⊎ (getD (ts .ends) u 0 + ts .drift < getD (ts .begins) v 0)
+        out t =
+            ⊎-elim (λ (a : T (edge g e u v)). inl a)
+            (λ (c : T clocked). inr (log-ends u v hu hv .0 (eq-T (sym (timed-ends ts g u v (below u hu) (below v hv))) (and-r (ltb v (size g)) (endedBefore ts u v) (and-r (ltb u (size g)) (ltb v (size g) && endedBefore ts u v) c)))))
+            (or-out (edge g e u v) clocked (eq-T is t))
+
+        back : T (edge g e u v) ⊎ (getD (ts .ends) u 0 + ts .drift < getD (ts .begins) v 0) → T (edge (timedHistory b ts) e u v)
+        back (inl a) = eq-T (sym is) (or-l (edge g e u v) clocked a)
+        back (inr l) = log-edge e u v hu hv l

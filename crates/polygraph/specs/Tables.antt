@@ -1,5 +1,5 @@
 -- The tables that everything else reads: who writes each key, the reads as numbers, and the reads by what they name. Assumes nothing.
-use Prim.Native.Nat.{ℕ, _+_, _-_, _*_, _/_, _%_, _^_, _≤_}
+use Prim.Native.Nat.{ℕ, _+_, _-_, _*_, _/_, _%_, _^_, _≤_, _<_}
 use mathlib.Core.Path.{_≡_}
 use mathlib.Core.Bool.{Bool, false, not, cond, _&&_}
 use mathlib.Core.List.{List, _++_, map}
@@ -64,6 +64,10 @@ slotOf writers t o = slotBy (getD writers (o .key) 0) t (o .key) (o .argument)
 -- for a read as a number
 unfoldable pub slotIn : List ℕ → ℕ → ℕ
 slotIn writers r = slotBy (getD writers (keyIn r) 0) (ownerIn r) (keyIn r) (argumentIn r)
+
+-- the numbers of the words to which the first reads go
+abbrev pub SlotsOf : List ℕ → List ℕ → ℕ → List ℕ → Type 0
+SlotsOf writers reads count slots = (i : ℕ) → i < count → getD slots i 0 ≡ slotIn writers (getD reads i 0)
 
 -- ---- how the code fills a table: it puts sets into words
 

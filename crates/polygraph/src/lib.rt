@@ -11,10 +11,11 @@ ghost use Rattle.model.specs.Polygraph.{rows};
 ghost use Rattle.model.specs.Log.{transactionsIn, startAt, loadNumber, historyOf};
 ghost use Rattle.graph.specs.Masks.{putIf};
 ghost use Rattle.log.specs.Reading.{InLog};
-ghost use Rattle.polygraph.specs.Tables.{writersOf, packedAs, readMarksOf, slotBy, slotIn, markStep, Unmarked, DecodedOne, Decoded};
+ghost use Rattle.polygraph.specs.Tables.{writersOf, packedAs, readMarksOf, slotBy, slotIn, SlotsOf, markStep, Unmarked, DecodedOne, Decoded};
 ghost use Rattle.polygraph.specs.Edges.{nextBy, successorsBy, cabinetRows, ownEdge, readStep};
 use graph::mask::has;
 use graph::mask::lowest;
+use graph::mask::member;
 use graph::mask::put_if;
 use graph::mask::with;
 use graph::mask::without;
@@ -37,6 +38,14 @@ fn pick(so: bool, a: u32, b: u32) -> u32
     ensures { λ r. ⌜ r ≡ cond so a b ⌝ }
 {
     if so { a } else { b }
+}
+
+// The same by arithmetic, for a not above b: `one` is 1 for the first and 0 for the second. A compiler may make a branch of a pick after all, and not of this.
+fn blend(one: u32, a: u32, b: u32) -> u32
+    requires { ⌜ (one ≤ 1) × (a ≤ b) ⌝ }
+    ensures { λ r. ⌜ r ≡ cond (eqb one 1) a b ⌝ }
+{
+    b - one * (b - a)
 }
 
 // ---- decoding
@@ -127,8 +136,9 @@ fn slot(w: u32, t: u32, key: u32, argument: u32) -> u32
     requires { ⌜ key < 32 ⌝ }
     ensures { λ r. ⌜ (r ≡ slotBy w t key argument) × (r < 1057) ⌝ }
 {
-    let good = (argument < 32) & (argument != t) & has(w, argument % 32);
-    let named = pick(good, key * 32 + argument % 32, BAD);
+    let writes = member(w, argument % 32);
+    let good = pick((argument < 32) & (argument != t), writes, 0);
+    let named = blend(good, key * 32 + argument % 32, BAD);
     pick(argument == FROM_START, START + key, named)
 }
 
@@ -141,23 +151,31 @@ fn slot_of(read: u32, writers: &[u32; 32]) -> u32
     slot(writers[key as usize], t, key, read % 65536)
 }
 
-// A read goes into the table.
-fn mark_read(read: u32, writers: &[u32; 32], out: &mut [u32; MARKS])
-    ensures { λ _. ⌜ now (out .exit) ≡ markStep (now (writers .entry)) (now (out .entry)) read ⌝ }
+// A read goes into the table; the number of its word.
+fn mark_read(read: u32, writers: &[u32; 32], out: &mut [u32; MARKS]) -> u16
+    ensures { λ r. ⌜ (r ≡ slotIn (now (writers .entry)) read) × (now (out .exit) ≡ markStep (now (writers .entry)) (now (out .entry)) read) ⌝ }
 {
     let t = read / 65536 % 32;
-    let at = slot_of(read, writers) as usize;
+    let word = slot_of(read, writers);
+    let at = word as usize;
     out[at] = with(out[at], t);
+    word as u16
 }
 
-// The reads by what they name.
-pub fn read_marks(reads: &[u32; 256], count: usize, writers: &[u32; 32], out: &mut [u32; MARKS])
-    requires { ⌜ (count ≤ 256) × (now out ≡ replicate 1057 0) ⌝ }
-    ensures { λ _. ⌜ ((b : List ℕ) → Decoded b (now (writers .entry)) (now (reads .entry)) count → now (out .exit) ≡ readMarksOf (historyOf b)) ⌝ }
+// The reads by what they name, and of each read the number of its word, which `known` needs again.
+pub fn read_marks(
+    reads: &[u32; 256],
+    count: usize,
+    writers: &[u32; 32],
+    slots: &mut [u16; 256],
+    out: &mut [u32; MARKS],
+)
+    requires { ⌜ (count ≤ 256) × (now out ≡ replicate 1057 0) × (length (now slots) ≡ 256) ⌝ }
+    ensures { λ _. ⌜ SlotsOf (now (writers .entry)) (now (reads .entry)) count (now (slots .exit)) × ((b : List ℕ) → Decoded b (now (writers .entry)) (now (reads .entry)) count → now (out .exit) ≡ readMarksOf (historyOf b)) ⌝ }
 {
     let mut i: usize = 0;
     while i < count {
-        mark_read(reads[i], writers, out);
+        slots[i] = mark_read(reads[i], writers, out);
         i += 1;
     }
 }
@@ -212,19 +230,20 @@ fn own_edges(at: u32, t: u32, w: u32, readers: u32, chained: bool) -> u32
     pick(at < START, pick(chained, next, 0), other)
 }
 
-// The edges of a read.
+// The edges of a read, whose word in the table has the number `at`.
 fn add_read(
     read: u32,
+    at: u32,
     chained: bool,
     writers: &[u32; 32],
     marks: &[u32; MARKS],
     out: &mut [u32; 32],
 )
+    requires { ⌜ at ≡ slotIn (now writers) read ⌝ }
     ensures { λ _. ⌜ now (out .exit) ≡ readStep chained (now (writers .entry)) (now (marks .entry)) (now (out .entry)) read ⌝ }
 {
     let key = (read / 16777216 % 32) as usize;
     let t = read / 65536 % 32;
-    let at = slot_of(read, writers);
     let from = (at % 32) as usize;
     let edge = put_if(0, t, at < START);
     let own = own_edges(at, t, writers[key], marks[at as usize], chained);
@@ -239,17 +258,25 @@ pub fn known(
     encoding: u8,
     reads: &[u32; 256],
     count: usize,
+    slots: &[u16; 256],
     writers: &[u32; 32],
     marks: &[u32; MARKS],
 ) -> [u32; 32]
-    requires { ⌜ Decoded (now log) (now writers) (now reads) count × (n ≡ transactionsIn (now log)) × (now marks ≡ readMarksOf (historyOf (now log))) ⌝ }
+    requires { ⌜ Decoded (now log) (now writers) (now reads) count × SlotsOf (now writers) (now reads) count (now slots) × (n ≡ transactionsIn (now log)) × (now marks ≡ readMarksOf (historyOf (now log))) ⌝ }
     ensures { λ r. ⌜ r ≡ rows (historyOf (now (log .entry))) encoding ⌝ }
 {
     let mut out = [0u32; 32];
     add_cabinets(log, n, &mut out);
     let mut i: usize = 0;
     while i < count {
-        add_read(reads[i], encoding == 2, writers, marks, &mut out);
+        add_read(
+            reads[i],
+            slots[i] as u32,
+            encoding == 2,
+            writers,
+            marks,
+            &mut out,
+        );
         i += 1;
     }
     out

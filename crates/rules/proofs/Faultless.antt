@@ -28,6 +28,11 @@ and-none x k e = go (bit x k) (ap (λ y. bit x k && y) (sym (one-bit k)) ∙ sym
     go true p = subst (λ z. T (not z)) (sym p) tt
     go false p = tt
 
+pub faults-kind : (o : Body) (n reads writes : ℕ) → faultsBy o n reads writes ≡ 0 → o .kind < 2
+unfolding faultsBy
+faults-kind o n reads writes s =
+    let low = or-none (o .kind / 2) (o .key / 32) (or-none (bitOr (o .kind / 2) (o .key / 32)) _ (or-none _ _ s .0) .0) .0 in omega (arith, low)
+
 pub faults-good : (o : Body) (n t reads writes backs : ℕ) → faultsBy o n reads writes ≡ 0 → (o .key < 32) × (bodyBy o n t reads writes backs ≡ 0)
 unfolding faultsBy bodyBy readBy backBy writeBy markBy
 faults-good o n t reads writes backs s =

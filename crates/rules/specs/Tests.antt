@@ -45,3 +45,7 @@ faultsBy o n reads writes =
     let key = o .key % 32 in
     let read = markBy 0 (o .kind) 0 key in
     bitOr (bitOr (bitOr (o .kind / 2) (o .key / 32)) (bitOr (bitAnd reads read) (bitAnd writes (bitOr 0 (2 ^ key))))) (cond (named n (o .argument)) 0 read)
+
+-- all bits where a mask stays, none where it is dropped
+unfoldable pub keepWord : Bool → ℕ
+keepWord stays = cond stays 4294967295 0

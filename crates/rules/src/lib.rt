@@ -1,10 +1,9 @@
 // Load's rules for one body, over numbers and masks: 7, 8, 9, 10 or 34, 11. The keys that a transaction has read, written and read back so far are three masks.
 // The loops over a log's bodies are in `log`.
 ghost use mathlib.Core.Path.{_≡_};
-ghost use mathlib.Core.Bool.{cond};
+ghost use mathlib.Core.Bool.{Bool, cond};
 ghost use Prim.Native.Nat.{_<_};
-ghost use lib.Dec.{eqb};
-ghost use Rattle.rules.specs.Tests.{named, backBy, readBy, writeBy, bodyBy, faultsBy, markBy, markBack};
+ghost use Rattle.rules.specs.Tests.{named, backBy, readBy, writeBy, bodyBy, faultsBy, markBy, markBack, keepWord};
 use graph::has;
 use graph::with;
 
@@ -21,6 +20,15 @@ pub fn mark(mask: u32, kind: usize, which: usize, key: u32) -> u32
     ensures { λ r. ⌜ r ≡ markBy mask kind which key ⌝ }
 {
     if kind == which { with(mask, key) } else { mask }
+}
+
+// The mask of the keys written, with the key where a body of kind 0 or 1 is a write: the key's bit, unless it is a read's. It asks for the kind's test that
+// `faults` has made already, where `mark` would make a second one.
+pub fn mark_write(mask: u32, kind: usize, key: u32) -> u32
+    requires { ⌜ (kind < 2) × (key < 32) ⌝ }
+    ensures { λ r. ⌜ r ≡ markBy mask kind 1 key ⌝ }
+{
+    mask | (with(0, key) ^ mark(0, kind, 0, key))
 }
 
 // The mask of the keys read back, with the key where the body reads it after a write of it.
@@ -94,15 +102,17 @@ pub fn number(o: Body, n: usize, t: usize, reads: u32, writes: u32, backs: u32) 
 
 // ---- all bodies at once
 
-// A read's bit where its argument names nothing, else 0.
+// A read's bit where its argument names nothing, else 0. In 16 bits 65535 and 1 are 0, so that one test does for both ways to name something.
 fn unnamed(argument: usize, n: usize, read: u32) -> u32
+    requires { ⌜ argument < 65536 ⌝ }
     ensures { λ r. ⌜ r ≡ cond (named n argument) 0 read ⌝ }
 {
-    if names(argument, n) { 0 } else { read }
+    if (argument + 1) % 65536 <= n { 0 } else { read }
 }
 
 // Bits of which one is set where a body is refused or a read-back, with no branch.
 pub fn faults(o: Body, n: usize, reads: u32, writes: u32) -> usize
+    requires { ⌜ o .argument < 65536 ⌝ }
     ensures { λ r. ⌜ r ≡ faultsBy o n reads writes ⌝ }
 {
     let key = (o.key % 32) as u32;
@@ -112,9 +122,9 @@ pub fn faults(o: Body, n: usize, reads: u32, writes: u32) -> usize
     (o.kind / 2) | (o.key / 32) | before as usize | wrong as usize
 }
 
-// The mask, or none where a transaction starts.
-pub fn kept(mask: u32, starts: u8) -> u32
-    ensures { λ r. ⌜ r ≡ cond (eqb starts 0) mask 0 ⌝ }
+// The mask where `keep` has all bits, or none where it has none, as where a transaction starts.
+pub fn kept(mask: u32, keep: u32) -> u32
+    ensures { λ r. ⌜ ((stays : Bool) → keep ≡ keepWord stays → r ≡ cond stays mask 0) ⌝ }
 {
-    if starts == 0 { mask } else { 0 }
+    mask & keep
 }

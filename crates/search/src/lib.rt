@@ -1,6 +1,7 @@
 // Is there an order that respects the row words and one side of each constraint? The walk over a polygraph:
 // prune in passes until one drops none; a constraint with both sides closed off means no; no constraint left means yes; else side A of the first one left, then side B.
-// Row words travel by value and are kept closed, with no cycle. The constraints are one lent slice of words, four a constraint, that is only read.
+// Row words are kept closed, with no cycle. They travel by value from choice to choice; pruning changes them in place, since of 128 bytes that are
+// returned at each call the copies are a good part of the work. The constraints are one lent slice of words, four a constraint, that is only read.
 // Those that are open are bits of 128 words.
 ghost use mathlib.Core.Path.{_≡_};
 ghost use mathlib.Core.Bool.{true, false, not, _&&_};
@@ -17,12 +18,6 @@ use model::Constraint;
 pub mod order;
 
 use graph::mask::clear_low;
-
-// Closed row words after pruning; or `stuck`: some constraint has both sides closed off.
-pub struct State {
-    pub rows: [u32; 32],
-    pub stuck: bool,
-}
 
 // Whether there is a selection without a cycle, and the closed row words of one.
 pub struct Selection {
@@ -120,8 +115,16 @@ fn next_hit(
     stop as usize
 }
 
-// Closed row words with a side, closed again.
-fn take(rows: [u32; 32], from: u32, to: u32) -> [u32; 32]
+// A side goes into closed row words, which are closed again.
+fn take(rows: &mut [u32; 32], from: u32, to: u32)
+    requires { ⌜ PartialOrder (now rows) × (to < 32) × T (not (closedOff (now rows) from to)) ⌝ }
+    ensures { λ _. ⌜ Taken (now (rows .entry)) (now (rows .exit)) from to ⌝ }
+{
+    graph::take(rows, from, to);
+}
+
+// The same by value.
+fn extend(rows: [u32; 32], from: u32, to: u32) -> [u32; 32]
     requires { ⌜ PartialOrder rows × (to < 32) × T (not (closedOff rows from to)) ⌝ }
     ensures { λ r. ⌜ Taken rows r from to ⌝ }
 {
@@ -154,41 +157,33 @@ pub(crate) fn drop_at(left: &mut [u32; 128], i: usize)
     left[w] = graph::mask::without(left[w], (i % 32) as u32);
 }
 
-// Passes until one drops none. A constraint that was looked at after the last drop need not be looked at again,
-// so those from i to `stop` are left, and then those below `again`.
-pub(crate) fn prune(rows: [u32; 32], left: &mut [u32; 128], words: &[u32], n: u16) -> State
-    requires { ⌜ Ready (now words) n rows (now left) ⌝ }
-    ensures { λ r. ⌜ PrunedState (now (words .entry)) n rows (now (left .entry)) (r .stuck) (r .rows) (now (left .exit)) ⌝ }
+// Passes until one drops none; or `stuck`, where some constraint has both sides closed off. A constraint that was looked at after the last drop need not
+// be looked at again, so those from i to `stop` are left, and then those below `again`.
+pub(crate) fn prune(rows: &mut [u32; 32], left: &mut [u32; 128], words: &[u32], n: u16) -> bool
+    requires { ⌜ Ready (now words) n (now rows) (now left) ⌝ }
+    ensures { λ stuck. ⌜ PrunedState (now (words .entry)) n (now (rows .entry)) (now (left .entry)) stuck (now (rows .exit)) (now (left .exit)) ⌝ }
 {
-    let mut c = rows;
     let mut i: usize = 0;
     let mut stop = n;
     let mut again: u16 = 0;
     loop {
-        let at = next_hit(&c, left, words, i, stop, n);
+        let at = next_hit(rows, left, words, i, stop, n);
         if at < stop as usize {
             let k = constraint_at(words, at);
-            let side = last_side(&c, k);
+            let side = last_side(rows, k);
             let from = side.from;
             let to = side.to;
-            if graph::closed_off(&c, from, to) {
-                return State {
-                    rows: c,
-                    stuck: true,
-                };
+            if graph::closed_off(rows, from, to) {
+                return true;
             }
-            let next = take(c, from, to);
-            c = next;
+            take(rows, from, to);
             drop_at(left, at);
             i = at + 1;
             stop = n;
             again = at as u16;
         } else {
             if again == 0 {
-                return State {
-                    rows: c,
-                    stuck: false,
-                };
+                return false;
             }
             i = 0;
             stop = again;
@@ -246,15 +241,14 @@ fn next_choice(rows: &[u32; 32], left: &[u32; 128], words: &[u32], n: u16) -> us
 
 // The walk: whether some order respects the row words and one side of each constraint, where those that are not open are settled.
 // Each choice puts two numbers in order that stood in none, so at most 496 calls stand one in another below the first (`depth` in proofs/Pairs.antt).
-// As compiled a level takes 1,520 bytes of stack.
+// As compiled a level takes 1,232 bytes of stack.
 pub(crate) fn walk(rows: [u32; 32], left: &[u32; 128], words: &[u32], n: u16) -> Selection
     requires { ⌜ Ready (now words) n rows (now left) ⌝ }
     ensures { λ r. ⌜ Walked (now (words .entry)) n rows (now (left .entry)) (r .found) (r .rows) ⌝ }
 {
     let mut l = *left;
-    let p = prune(rows, &mut l, words, n);
-    let c = p.rows;
-    let stuck = p.stuck;
+    let mut c = rows;
+    let stuck = prune(&mut c, &mut l, words, n);
     if stuck {
         return Selection {
             rows: c,
@@ -270,12 +264,12 @@ pub(crate) fn walk(rows: [u32; 32], left: &[u32; 128], words: &[u32], n: u16) ->
     }
     drop_at(&mut l, i);
     let k = constraint_at(words, i);
-    let with_a = take(c, k.fromA, k.toA);
+    let with_a = extend(c, k.fromA, k.toA);
     let a = walk(with_a, &l, words, n);
     let found = a.found;
     if found {
         return a;
     }
-    let with_b = take(c, k.fromB, k.toB);
+    let with_b = extend(c, k.fromB, k.toB);
     walk(with_b, &l, words, n)
 }

@@ -141,9 +141,9 @@ fn fill(
         let v = p.v;
         let d = p.rows;
         let chosen = p.sel;
-        let q = crate::prune(d, &mut l, words, n);
-        let next = q.rows;
-        c = next;
+        c = d;
+        // not stuck: the selection at hand has all that is picked
+        crate::prune(&mut c, &mut l, words, n);
         s = chosen;
         set = graph::mask::without(set, v);
         out[k] = v as u8;
@@ -250,15 +250,14 @@ pub fn first_closed(rows: [u32; 32], words: &[u32], n: u16, t: usize) -> Found
 {
     let mut left = [0; 128];
     all_open(n, &mut left);
-    let p = crate::prune(rows, &mut left, words, n);
-    let stuck = p.stuck;
+    let mut d = rows;
+    let stuck = crate::prune(&mut d, &mut left, words, n);
     if stuck {
         return Found {
             found: false,
             order: [0; 32],
         };
     }
-    let d = p.rows;
     lighter(&mut left, words, n);
     let set = numbers(t as u32);
     if crate::next_open(&left, 0, n) >= n as usize {

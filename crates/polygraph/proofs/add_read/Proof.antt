@@ -1,6 +1,8 @@
 -- `polygraph::add_read` meets its contract. Assumes nothing.
 use Prim.Native.Nat.{_<_, _^_}
 use Rattle.polygraph.specs.Tables.{putAt, ownerIn, keyIn}
+use native.Mathlib.Omega.{arith}
+use Rattle.polygraph.proofs.ReadTable.{slot-in-lt}
 use Rattle.polygraph.proofs.ReadEdges.{step-is}
 use borrow.Author.Needs.{needs}
 use Rattle.polygraph.proofs.add_read.Statement.{statement}
@@ -8,9 +10,6 @@ use Rattle.polygraph.proofs.add_read.Tie as tie
 
 cast-key : tie.Need-cast-key
 cast-key c = search needs
-
-slot-of-requires : tie.Need-slot-of-requires
-slot-of-requires c κs = search needs
 
 cast-from : tie.Need-cast-from
 cast-from c = search needs
@@ -24,14 +23,11 @@ mul-own-edges c = search needs
 element-copy-out-own-edges : tie.Need-element-copy-out-own-edges
 element-copy-out-own-edges c = search needs
 
-cast-own-edges : tie.Need-cast-own-edges
-cast-own-edges c = search needs
-
 mul-own-edges-2 : tie.Need-mul-own-edges-2
 mul-own-edges-2 c = search needs
 
 element-copy-out-own-edges-2 : tie.Need-element-copy-out-own-edges-2
-element-copy-out-own-edges-2 c = search needs
+element-copy-out-own-edges-2 c = let s = c .before .before in omega (arith, s .pre, slot-in-lt (s .args .writers .now) (s .args .read))
 
 own-edges-requires : tie.Need-own-edges-requires
 own-edges-requires c κs = search needs
@@ -69,24 +65,22 @@ element-write-out-2 c = search needs
 returns : tie.Need-returns
 unfolding putAt ownerIn keyIn
 returns c =
-    let a = c .before .before .before .before .before .before .before .args in
-    let at = c .before .before .before .before .before .before .slot-of in
+    let s = c .before .before .before .before .before .before in
+    let a = s .args in
     let edge = c .before .before .before .before .before .put-if in
     let own = c .before .before .own-edges in
     let small : own .result < 2 ^ 32 = search needs in
-    step-is (a .chained) (a .writers .now) (a .marks .now) (a .out .now) (a .read) (at .result) (edge .result) (own .result) (at .ensures .0) (edge .ensures) small (own .ensures)
+    step-is (a .chained) (a .writers .now) (a .marks .now) (a .out .now) (a .read) (a .at) (edge .result) (own .result) (s .pre) (edge .ensures) small (own .ensures)
 
 pub add-read-spec : {M : Type 1} → statement M
 add-read-spec =
     tie.close
     (tie.spec
     cast-key
-    slot-of-requires
     cast-from
     put-if-requires
     mul-own-edges
     element-copy-out-own-edges
-    cast-own-edges
     mul-own-edges-2
     element-copy-out-own-edges-2
     own-edges-requires

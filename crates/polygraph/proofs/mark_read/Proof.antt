@@ -1,6 +1,7 @@
 -- `polygraph::mark_read` meets its contract. Assumes nothing.
 use Rattle.polygraph.specs.Tables.{markStep, ownerIn}
 use Rattle.polygraph.proofs.Marks.{put-is}
+use native.Mathlib.Omega.{arith}
 use borrow.Author.Needs.{needs}
 use Rattle.polygraph.proofs.mark_read.Statement.{statement}
 use Rattle.polygraph.proofs.mark_read.Tie as tie
@@ -26,9 +27,12 @@ mul-out c = search needs
 element-write-out : tie.Need-element-write-out
 element-write-out c = search needs
 
+cast-result : tie.Need-cast-result
+cast-result c = omega (arith, c .before .before .slot-of .ensures .1)
+
 returns : tie.Need-returns
 unfolding markStep ownerIn
-returns c = put-is _ _ _ _ _ (c .before .before .slot-of .ensures .0) (c .with .ensures)
+returns c = let word = c .before .before .slot-of .ensures .0 in (word, put-is _ _ _ _ _ word (c .with .ensures))
 
 pub mark-read-spec : {M : Type 1} → statement M
 mark-read-spec =
@@ -41,4 +45,5 @@ mark-read-spec =
     with-requires
     mul-out
     element-write-out
+    cast-result
     returns)

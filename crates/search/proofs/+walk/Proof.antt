@@ -14,7 +14,7 @@ use Rattle.search.proofs.constraint_at.Reads as constraint-at-reads
 use Rattle.search.proofs.drop_at.Reads as drop-at-reads
 use Rattle.search.proofs.next_choice.Reads as next-choice-reads
 use Rattle.search.proofs.prune.Reads as prune-reads
-use Rattle.search.proofs.take.Reads as take-reads
+use Rattle.search.proofs.extend.Reads as extend-reads
 use Rattle.search.proofs.+walk.{statement}
 use Rattle.search.proofs.+walk.Tie.{close}
 
@@ -38,23 +38,23 @@ claims t = (
   drop-at-reads.Learnt,
   constraint-at-reads.Asked,
   constraint-at-reads.Learnt,
-  take-reads.Asked,
-  take-reads.Learnt,
+  extend-reads.Asked,
+  extend-reads.Learnt,
   walk-below t,
   walk.Post,
 )
 
 walk-prune-requires : (t : ℕ) → walk-lts.Need-prune-requires (claims t) (walk-at t) walk.Post
-walk-prune-requires t c κs = c .before .before .before .pre .1
+walk-prune-requires t c κs = c .before .before .before .before .pre .1
 
 walk-returns : (t : ℕ) → walk-lts.Need-returns (claims t) (walk-at t) walk.Post
-walk-returns t c = walk-stuck _ _ _ _ _ _ _ (c .before .before .prune .ensures) (c .if1 .taken) _
+walk-returns t c = walk-stuck _ _ _ _ _ _ _ (c .before .prune .ensures) (c .if1 .taken) _
 
 walk-next-choice-requires : (t : ℕ) → walk-lts.Need-next-choice-requires (claims t) (walk-at t) walk.Post
-walk-next-choice-requires t c κs = (prune-fit _ _ _ _ _ _ _ (c .before .before .before .before .prune .ensures) (c .before .before .if1 .left) (c .before .before .before .before .before .before .before .before .pre .1 .fit), c .before .before .before .before .before .before .before .before .pre .1 .given)
+walk-next-choice-requires t c κs = (prune-fit _ _ _ _ _ _ _ (c .before .before .before .prune .ensures) (c .before .before .if1 .left) (c .before .before .before .before .before .before .before .before .pre .1 .fit), c .before .before .before .before .before .before .before .before .pre .1 .given)
 
 walk-returns-2 : (t : ℕ) → walk-lts.Need-returns-2 (claims t) (walk-at t) walk.Post
-walk-returns-2 t c = walk-leaf _ _ _ _ _ _ _ (c .before .before .before .before .before .before .prune .ensures) (c .before .before .before .before .if1 .left) (c .before .before .before .before .before .before .before .before .before .before .pre .1 .fit) _ (c .if2 .taken) (c .before .next-choice .ensures)
+walk-returns-2 t c = walk-leaf _ _ _ _ _ _ _ (c .before .before .before .before .before .prune .ensures) (c .before .before .before .before .if1 .left) (c .before .before .before .before .before .before .before .before .before .before .pre .1 .fit) _ (c .if2 .taken) (c .before .next-choice .ensures)
 
 walk-drop-at-requires : (t : ℕ) → walk-lts.Need-drop-at-requires (claims t) (walk-at t) walk.Post
 walk-drop-at-requires t c κs = (omega (arith, c .before .if2 .left, c .before .before .before .before .before .before .before .before .before .before .before .pre .1 .given .few), c .before .before .next-choice .ensures .some (c .before .if2 .left) .0)
@@ -62,9 +62,9 @@ walk-drop-at-requires t c κs = (omega (arith, c .before .if2 .left, c .before .
 walk-constraint-at-requires : (t : ℕ) → walk-lts.Need-constraint-at-requires (claims t) (walk-at t) walk.Post
 walk-constraint-at-requires t c κs = room-at _ _ _ (c .before .before .before .before .before .before .before .before .before .before .before .before .pre .1 .given) (c .before .before .if2 .left)
 
-walk-take-requires : (t : ℕ) → walk-lts.Need-take-requires (claims t) (walk-at t) walk.Post
-walk-take-requires t c κs =
-    let p = c .before .before .before .before .before .before .before .before .before .prune .ensures in
+walk-extend-requires : (t : ℕ) → walk-lts.Need-extend-requires (claims t) (walk-at t) walk.Post
+walk-extend-requires t c κs =
+    let p = c .before .before .before .before .before .before .before .before .prune .ensures in
     let q = c .before .before .before .before .before .before .before .if1 .left in
     let g = c .before .before .before .before .before .before .before .before .before .before .before .before .before .pre .1 .given in
     let h = c .before .before .before .if2 .left in
@@ -74,22 +74,22 @@ walk-take-requires t c κs =
 walk-walk-requires : (t : ℕ) → walk-lts.Need-walk-requires (claims t) (walk-at t) walk.Post
 walk-walk-requires t c κs =
     let b = c .before .before .before .before .before .before .before .before .before .before .before .before .before .before .before in
-    let p = c .before .before .before .before .before .before .before .before .before .before .before .prune .ensures in
+    let p = c .before .before .before .before .before .before .before .before .before .before .prune .ensures in
     let q = c .before .before .before .before .before .before .before .before .before .if1 .left in
     let h = c .before .before .before .before .before .if2 .left in
     let y = c .before .before .before .before .before .before .next-choice .ensures in (
-      subst (λ (x : ℕ). openPairs (c .before .take .result) < x) (b .pre .0) (falls-A _ _ _ _ _ _ _ p q (b .pre .1 .given) _ h y _ (c .before .before .constraint-at .ensures) _ (c .before .before .before .drop-at .ensures) _ (c .before .take .ensures)),
-      ready-A _ _ _ _ _ _ _ p q (b .pre .1 .given) _ h y _ (c .before .before .constraint-at .ensures) _ (c .before .before .before .drop-at .ensures) _ (c .before .take .ensures) (b .pre .1 .fit),
+      subst (λ (x : ℕ). openPairs (c .before .extend .result) < x) (b .pre .0) (falls-A _ _ _ _ _ _ _ p q (b .pre .1 .given) _ h y _ (c .before .before .constraint-at .ensures) _ (c .before .before .before .drop-at .ensures) _ (c .before .extend .ensures)),
+      ready-A _ _ _ _ _ _ _ p q (b .pre .1 .given) _ h y _ (c .before .before .constraint-at .ensures) _ (c .before .before .before .drop-at .ensures) _ (c .before .extend .ensures) (b .pre .1 .fit),
     )
 
 walk-returns-3 : (t : ℕ) → walk-lts.Need-returns-3 (claims t) (walk-at t) walk.Post
 walk-returns-3 t c =
     let b = c .before .before .before .before .before .before .before .before .before .before .before .before .before .before .before .before .before in
-    chosen-A _ _ _ _ _ _ _ (c .before .before .before .before .before .before .before .before .before .before .before .before .before .prune .ensures) (c .before .before .before .before .before .before .before .before .before .before .before .if1 .left) (b .pre .1 .given) _ (c .before .before .before .before .before .before .before .if2 .left) (c .before .before .before .before .before .before .before .before .next-choice .ensures) _ (c .before .before .before .before .constraint-at .ensures) _ (c .before .before .before .before .before .drop-at .ensures) _ (c .before .before .before .take .ensures) _ _ (c .before .walk .ensures) (c .if3 .taken)
+    chosen-A _ _ _ _ _ _ _ (c .before .before .before .before .before .before .before .before .before .before .before .before .prune .ensures) (c .before .before .before .before .before .before .before .before .before .before .before .if1 .left) (b .pre .1 .given) _ (c .before .before .before .before .before .before .before .if2 .left) (c .before .before .before .before .before .before .before .before .next-choice .ensures) _ (c .before .before .before .before .constraint-at .ensures) _ (c .before .before .before .before .before .drop-at .ensures) _ (c .before .before .before .extend .ensures) _ _ (c .before .walk .ensures) (c .if3 .taken)
 
-walk-take-requires-2 : (t : ℕ) → walk-lts.Need-take-requires-2 (claims t) (walk-at t) walk.Post
-walk-take-requires-2 t c κs =
-    let p = c .before .before .before .before .before .before .before .before .before .before .before .before .before .prune .ensures in
+walk-extend-requires-2 : (t : ℕ) → walk-lts.Need-extend-requires-2 (claims t) (walk-at t) walk.Post
+walk-extend-requires-2 t c κs =
+    let p = c .before .before .before .before .before .before .before .before .before .before .before .before .prune .ensures in
     let q = c .before .before .before .before .before .before .before .before .before .before .before .if1 .left in
     let g = c .before .before .before .before .before .before .before .before .before .before .before .before .before .before .before .before .before .pre .1 .given in
     let h = c .before .before .before .before .before .before .before .if2 .left in
@@ -99,18 +99,18 @@ walk-take-requires-2 t c κs =
 walk-walk-requires-2 : (t : ℕ) → walk-lts.Need-walk-requires-2 (claims t) (walk-at t) walk.Post
 walk-walk-requires-2 t c κs =
     let b = c .before .before .before .before .before .before .before .before .before .before .before .before .before .before .before .before .before .before .before in
-    let p = c .before .before .before .before .before .before .before .before .before .before .before .before .before .before .before .prune .ensures in
+    let p = c .before .before .before .before .before .before .before .before .before .before .before .before .before .before .prune .ensures in
     let q = c .before .before .before .before .before .before .before .before .before .before .before .before .before .if1 .left in
     let h = c .before .before .before .before .before .before .before .before .before .if2 .left in
     let y = c .before .before .before .before .before .before .before .before .before .before .next-choice .ensures in (
-      subst (λ (x : ℕ). openPairs (c .before .take2 .result) < x) (b .pre .0) (falls-B _ _ _ _ _ _ _ p q (b .pre .1 .given) _ h y _ (c .before .before .before .before .before .before .constraint-at .ensures) _ (c .before .before .before .before .before .before .before .drop-at .ensures) _ (c .before .before .before .before .before .take .ensures) _ (c .before .take2 .ensures)),
-      ready-B _ _ _ _ _ _ _ p q (b .pre .1 .given) _ h y _ (c .before .before .before .before .before .before .constraint-at .ensures) _ (c .before .before .before .before .before .before .before .drop-at .ensures) _ (c .before .before .before .before .before .take .ensures) _ (c .before .take2 .ensures) (b .pre .1 .fit),
+      subst (λ (x : ℕ). openPairs (c .before .extend2 .result) < x) (b .pre .0) (falls-B _ _ _ _ _ _ _ p q (b .pre .1 .given) _ h y _ (c .before .before .before .before .before .before .constraint-at .ensures) _ (c .before .before .before .before .before .before .before .drop-at .ensures) _ (c .before .before .before .before .before .extend .ensures) _ (c .before .extend2 .ensures)),
+      ready-B _ _ _ _ _ _ _ p q (b .pre .1 .given) _ h y _ (c .before .before .before .before .before .before .constraint-at .ensures) _ (c .before .before .before .before .before .before .before .drop-at .ensures) _ (c .before .before .before .before .before .extend .ensures) _ (c .before .extend2 .ensures) (b .pre .1 .fit),
     )
 
 walk-returns-4 : (t : ℕ) → walk-lts.Need-returns-4 (claims t) (walk-at t) walk.Post
 walk-returns-4 t c =
     let b = c .before .before .before .before .before .before .before .before .before .before .before .before .before .before .before .before .before .before .before .before in
-    chosen-B _ _ _ _ _ _ _ (c .before .before .before .before .before .before .before .before .before .before .before .before .before .before .before .before .prune .ensures) (c .before .before .before .before .before .before .before .before .before .before .before .before .before .before .if1 .left) (b .pre .1 .given) _ (c .before .before .before .before .before .before .before .before .before .before .if2 .left) (c .before .before .before .before .before .before .before .before .before .before .before .next-choice .ensures) _ (c .before .before .before .before .before .before .before .constraint-at .ensures) _ (c .before .before .before .before .before .before .before .before .drop-at .ensures) _ (c .before .before .before .before .before .before .take .ensures) _ (c .before .before .take2 .ensures) _ _ (c .before .before .before .before .walk .ensures) (c .before .before .before .if3 .left) _ _ (c .walk2 .ensures)
+    chosen-B _ _ _ _ _ _ _ (c .before .before .before .before .before .before .before .before .before .before .before .before .before .before .before .prune .ensures) (c .before .before .before .before .before .before .before .before .before .before .before .before .before .before .if1 .left) (b .pre .1 .given) _ (c .before .before .before .before .before .before .before .before .before .before .if2 .left) (c .before .before .before .before .before .before .before .before .before .before .before .next-choice .ensures) _ (c .before .before .before .before .before .before .before .constraint-at .ensures) _ (c .before .before .before .before .before .before .before .before .drop-at .ensures) _ (c .before .before .before .before .before .before .extend .ensures) _ (c .before .before .extend2 .ensures) _ _ (c .before .before .before .before .walk .ensures) (c .before .before .before .if3 .left) _ _ (c .walk2 .ensures)
 
 pub +walk-spec : {M : Type 1} → statement M
 +walk-spec = close μ-walk λ t. walk-lts.spec (claims t)
@@ -122,9 +122,9 @@ pub +walk-spec : {M : Type 1} → statement M
     (walk-returns-2 t)
     (walk-drop-at-requires t)
     (walk-constraint-at-requires t)
-    (walk-take-requires t)
+    (walk-extend-requires t)
     (walk-walk-requires t)
     (walk-returns-3 t)
-    (walk-take-requires-2 t)
+    (walk-extend-requires-2 t)
     (walk-walk-requires-2 t)
     (walk-returns-4 t)

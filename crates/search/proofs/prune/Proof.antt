@@ -12,10 +12,10 @@ use Rattle.search.proofs.prune.Statement.{statement}
 use Rattle.search.proofs.prune.Tie as tie
 
 abbrev Inv-loop : tie.InvT-loop
-Inv-loop left₀ words n c₀ i₀ stop₀ again₀ left c i stop again = Pruning words n c₀ left₀ c left i stop again
+Inv-loop rows₀ left₀ words n i₀ stop₀ again₀ rows left i stop again = Pruning words n rows₀ left₀ rows left i stop again
 
 abbrev μ-loop : tie.MeasureT-loop
-μ-loop left₀ words n c₀ i₀ stop₀ again₀ left c i stop again = openCount left n * 20000 + (stop - i) + 2 * again
+μ-loop rows₀ left₀ words n i₀ stop₀ again₀ rows left i stop again = openCount left n * 20000 + (stop - i) + 2 * again
 
 loop-holds : tie.Need-loop-holds Inv-loop μ-loop
 loop-holds c = pruning-none _ _ _ _ (c .before .pre .partial) (c .before .pre .fit)
@@ -35,7 +35,7 @@ last-side-requires : tie.Need-last-side-requires Inv-loop μ-loop
 last-side-requires c κs = let l = c .before .before .before .before .before .before .loop in
     let e = c .before .constraint-at .ensures in
     let x = nodes-of _ _ _ _ (c .before .before .before .before .before .before .before .before .pre .given) (omega (arith, l .inv .turning .stops)) e in
-    (x .0, x .1, l .inv .narrowed .grown .partial .closed, subst (λ (k : Constraint). T (shut (l .c) k)) (sym e) (c .before .before .before .next-hit .ensures .some (c .before .before .if1 .taken) .1))
+    (x .0, x .1, l .inv .narrowed .grown .partial .closed, subst (λ (k : Constraint). T (shut (l .rows) k)) (sym e) (c .before .before .before .next-hit .ensures .some (c .before .before .if1 .taken) .1))
 
 closed-off-requires : tie.Need-closed-off-requires Inv-loop μ-loop
 closed-off-requires c κs = let l = c .before .before .before .before .before .before .before .before .loop in
@@ -47,28 +47,28 @@ returns c = let b = c .before .before .before .before .before .before .before .b
     pruning-stuck _ _ _ _ _ _ (b .pre .fit) _ _ _ (l .inv) _ (c .before .before .before .before .before .before .before .next-hit .ensures) (c .before .before .before .before .before .before .if1 .taken) _ (c .before .before .before .before .before .constraint-at .ensures) _ _ (c .before .before .before .last-side .ensures) (is-true _ _ (off-is _ _ _ _ (l .inv .narrowed .grown .partial .closed) (c .before .closed-off .ensures)) (c .if2 .taken))
 
 take-requires : tie.Need-take-requires Inv-loop μ-loop
-take-requires c κs = let l = c .before .before .before .before .before .before .before .before .before .before .loop in
-    (l .inv .narrowed .grown .partial, last-node _ _ _ _ (nodes-of _ _ _ _ (c .before .before .before .before .before .before .before .before .before .before .before .before .pre .given) (omega (arith, l .inv .turning .stops)) (c .before .before .before .before .before .constraint-at .ensures)) (c .before .before .before .last-side .ensures), is-false _ _ (off-is _ _ _ _ (l .inv .narrowed .grown .partial .closed) (c .before .closed-off .ensures)) (c .if2 .left))
+take-requires c κs = let l = c .before .before .before .before .before .before .before .before .before .before .before .loop in
+    (l .inv .narrowed .grown .partial, last-node _ _ _ _ (nodes-of _ _ _ _ (c .before .before .before .before .before .before .before .before .before .before .before .before .before .pre .given) (omega (arith, l .inv .turning .stops)) (c .before .before .before .before .before .before .constraint-at .ensures)) (c .before .before .before .before .last-side .ensures), is-false _ _ (off-is _ _ _ _ (l .inv .narrowed .grown .partial .closed) (c .before .before .closed-off .ensures)) (c .before .if2 .left))
 
 drop-at-requires : tie.Need-drop-at-requires Inv-loop μ-loop
-drop-at-requires c κs = let l = c .before .before .before .before .before .before .before .before .before .before .before .before .loop in
-    (omega (arith, l .inv .turning .stops, c .before .before .before .before .before .before .before .before .before .before .before .before .before .before .pre .given .few), c .before .before .before .before .before .before .before .before .before .next-hit .ensures .some (c .before .before .before .before .before .before .before .before .if1 .taken) .0)
+drop-at-requires c κs = let l = c .before .before .before .before .before .before .before .before .before .before .before .before .before .loop in
+    (omega (arith, l .inv .turning .stops, c .before .before .before .before .before .before .before .before .before .before .before .before .before .before .before .pre .given .few), c .before .before .before .before .before .before .before .before .before .before .next-hit .ensures .some (c .before .before .before .before .before .before .before .before .before .if1 .taken) .0)
 
 add-i : tie.Need-add-i Inv-loop μ-loop
-add-i c = omega (arith, c .before .before .before .before .before .before .before .before .before .before .before .before .before .loop .inv .turning .stops, c .before .before .before .before .before .before .before .before .before .before .before .before .before .before .before .pre .given .few)
+add-i c = omega (arith, c .before .before .before .before .before .before .before .before .before .before .before .before .before .before .loop .inv .turning .stops, c .before .before .before .before .before .before .before .before .before .before .before .before .before .before .before .before .pre .given .few)
 
 cast-again : tie.Need-cast-again Inv-loop μ-loop
-cast-again c = omega (arith, c .before .before .before .before .before .before .before .before .before .before .before .before .before .loop .inv .turning .stops, c .before .before .before .before .before .before .before .before .before .before .before .before .before .before .before .pre .given .few)
+cast-again c = omega (arith, c .before .before .before .before .before .before .before .before .before .before .before .before .before .before .loop .inv .turning .stops, c .before .before .before .before .before .before .before .before .before .before .before .before .before .before .before .before .pre .given .few)
 
 loop-less : tie.Need-loop-less Inv-loop μ-loop
-loop-less c = let b = c .before .before .before .before .before .before .before .before .before .before .before .before .before .before .before in
-    let l = c .before .before .before .before .before .before .before .before .before .before .before .before .before .loop in
-    let h = c .before .before .before .before .before .before .before .before .before .if1 .taken in
-    omega (arith, l .inv .turning .stops, b .pre .given .few, drop-falls _ _ _ (c .drop-at .ensures) (b .args .n) (omega (arith, l .inv .turning .stops)) (c .before .before .before .before .before .before .before .before .before .before .next-hit .ensures .some h .0))
+loop-less c = let b = c .before .before .before .before .before .before .before .before .before .before .before .before .before .before .before .before in
+    let l = c .before .before .before .before .before .before .before .before .before .before .before .before .before .before .loop in
+    let h = c .before .before .before .before .before .before .before .before .before .before .if1 .taken in
+    omega (arith, l .inv .turning .stops, b .pre .given .few, drop-falls _ _ _ (c .drop-at .ensures) (b .args .n) (omega (arith, l .inv .turning .stops)) (c .before .before .before .before .before .before .before .before .before .before .before .next-hit .ensures .some h .0))
 
 loop-again : tie.Need-loop-again Inv-loop μ-loop
-loop-again c = let l = c .before .before .before .before .before .before .before .before .before .before .before .before .before .loop in
-    pruning-next _ _ _ _ _ _ (c .before .before .before .before .before .before .before .before .before .before .before .before .before .before .before .pre .fit) _ _ _ (l .inv) _ (c .before .before .before .before .before .before .before .before .before .before .next-hit .ensures) (c .before .before .before .before .before .before .before .before .before .if1 .taken) _ (c .before .before .before .before .before .before .before .before .constraint-at .ensures) _ _ (c .before .before .before .before .before .before .last-side .ensures) _ (c .before .before .take .ensures) _ (c .drop-at .ensures)
+loop-again c = let l = c .before .before .before .before .before .before .before .before .before .before .before .before .before .before .loop in
+    pruning-next _ _ _ _ _ _ (c .before .before .before .before .before .before .before .before .before .before .before .before .before .before .before .before .pre .fit) _ _ _ (l .inv) _ (c .before .before .before .before .before .before .before .before .before .before .before .next-hit .ensures) (c .before .before .before .before .before .before .before .before .before .before .if1 .taken) _ (c .before .before .before .before .before .before .before .before .before .constraint-at .ensures) _ _ (c .before .before .before .before .before .before .before .last-side .ensures) _ (c .before .before .take .ensures) _ (c .drop-at .ensures)
 
 returns-2 : tie.Need-returns-2 Inv-loop μ-loop
 returns-2 c = let b = c .before .before .before .before .before .before .before in

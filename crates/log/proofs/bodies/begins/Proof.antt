@@ -5,7 +5,7 @@ use Prim.Native.Nat.{_≤_, _<_, _-_}
 use Rattle.model.specs.Log.{startAt}
 use Rattle.log.specs.Tests.{Begun}
 use Rattle.log.specs.declared.view.Entry.{Entry}
-use Rattle.log.proofs.Starts.{begun-start, begun-next, starts-low}
+use Rattle.log.proofs.Starts.{begun-start, begun-next}
 use Rattle.log.proofs.Placing.{placed-entry, placed-within}
 use borrow.Author.Needs.{needs}
 use Rattle.log.proofs.bodies.begins.Statement.{statement}
@@ -27,18 +27,8 @@ entry-of-requires c κs =
 cast-start : tie.Need-cast-start Inv-loop μ-loop
 cast-start c = search needs
 
-array-read-out : tie.Need-array-read-out Inv-loop μ-loop
-array-read-out c =
-    let s = c .before .before .before .before .before in
-    let is : c .before .entry-of .result .start ≡ startAt (s .args .log .now) (c .before .before .before .loop .t) = ap (λ (e : Entry). e .start) (c .before .entry-of .ensures) in
-    omega (arith, is, placed-within (s .args .log .now) (s .args .n) (s .pre) (c .before .before .before .loop .t) (search needs), s .pre .many)
-
-add-out : tie.Need-add-out Inv-loop μ-loop
-add-out c =
-    let s = c .before .before .before .before .before in
-    let is : c .before .entry-of .result .start ≡ startAt (s .args .log .now) (c .before .before .before .loop .t) = ap (λ (e : Entry). e .start) (c .before .entry-of .ensures) in
-    let low : c .before .entry-of .result .start < 257 = omega (arith, is, placed-within (s .args .log .now) (s .args .n) (s .pre) (c .before .before .before .loop .t) (search needs), s .pre .many) in
-    record { fits = omega (arith, c .before .before .before .loop .inv .1 .each (c .before .entry-of .result .start) low, starts-low (s .args .log .now) (c .before .before .before .loop .t) (c .before .entry-of .result .start), s .pre .few) }
+mul-out : tie.Need-mul-out Inv-loop μ-loop
+mul-out c = search needs
 
 array-write-out : tie.Need-array-write-out Inv-loop μ-loop
 array-write-out c =
@@ -57,7 +47,7 @@ loop-again c =
     let s = c .before .before .before .before .before in
     let is : c .before .entry-of .result .start ≡ startAt (s .args .log .now) (c .before .before .before .loop .t) = ap (λ (e : Entry). e .start) (c .before .entry-of .ensures) in
     let low : c .before .entry-of .result .start < 257 = omega (arith, is, placed-within (s .args .log .now) (s .args .n) (s .pre) (c .before .before .before .loop .t) (search needs), s .pre .many) in
-    (omega arith, begun-next (s .args .log .now) (c .before .before .before .loop .t) (c .before .entry-of .result .start) _ (c .before .before .before .loop .out) (c .before .before .before .loop .inv .1) is low refl)
+    (omega arith, begun-next (s .args .log .now) (c .before .before .before .loop .t) (c .before .entry-of .result .start) (c .before .before .before .loop .out) (c .before .before .before .loop .inv .1) is low)
 
 returns : tie.Need-returns Inv-loop μ-loop
 returns c =
@@ -74,8 +64,7 @@ begins-spec =
     loop-holds
     entry-of-requires
     cast-start
-    array-read-out
-    add-out
+    mul-out
     array-write-out
     add-t
     loop-less

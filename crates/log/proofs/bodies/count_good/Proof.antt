@@ -3,6 +3,7 @@ use mathlib.Core.Path.{refl, sym, _∙_}
 use native.Mathlib.Omega.{arith}
 use Prim.Native.Nat.{_≤_, _-_}
 use Rattle.log.proofs.Flat.{Flat, flat-start, flat-begin, flat-next, flat-good, flat-body, flat-record}
+use Rattle.rules.proofs.Faultless.{faults-kind}
 use borrow.Author.Needs.{needs}
 use Rattle.log.proofs.bodies.count_good.Statement.{statement}
 use Rattle.log.proofs.bodies.count_good.Tie as tie
@@ -25,11 +26,17 @@ body-of-requires c κs = let s = c .before .before .before .before in flat-body 
 cast-key : tie.Need-cast-key Inv-loop μ-loop
 cast-key c = search needs
 
+mul-kept : tie.Need-mul-kept Inv-loop μ-loop
+mul-kept c = search needs
+
 array-read-kept : tie.Need-array-read-kept Inv-loop μ-loop
 array-read-kept c = omega (arith, c .before .before .before .before .before .before .pre .0 .many, c .before .before .before .before .before .before .pre .1)
 
 kept-requires : tie.Need-kept-requires Inv-loop μ-loop
 kept-requires c κs = search needs
+
+mul-kept-2 : tie.Need-mul-kept-2 Inv-loop μ-loop
+mul-kept-2 c = search needs
 
 array-read-kept-2 : tie.Need-array-read-kept-2 Inv-loop μ-loop
 array-read-kept-2 c = omega (arith, c .before .before .before .before .before .before .before .pre .0 .many, c .before .before .before .before .before .before .before .pre .1)
@@ -38,7 +45,7 @@ kept-requires-2 : tie.Need-kept-requires-2 Inv-loop μ-loop
 kept-requires-2 c κs = search needs
 
 faults-requires : tie.Need-faults-requires Inv-loop μ-loop
-faults-requires c κs = search needs
+faults-requires c κs = c .before .before .before .body-of .ensures .argument-fits
 
 returns : tie.Need-returns Inv-loop μ-loop
 returns c = flat-good _ _ _ _ _ _ (c .before .before .before .before .before .before .before .loop .inv .1)
@@ -46,8 +53,8 @@ returns c = flat-good _ _ _ _ _ _ (c .before .before .before .before .before .be
 mark-requires : tie.Need-mark-requires Inv-loop μ-loop
 mark-requires c κs = search needs
 
-mark-requires-2 : tie.Need-mark-requires-2 Inv-loop μ-loop
-mark-requires-2 c κs = search needs
+mark-write-requires : tie.Need-mark-write-requires Inv-loop μ-loop
+mark-write-requires c κs = (faults-kind _ _ _ _ (sym (c .before .before .faults .ensures) ∙ c .before .if1 .left), search needs)
 
 add-i : tie.Need-add-i Inv-loop μ-loop
 add-i c = search needs
@@ -61,11 +68,11 @@ loop-again c =
     let b = s .args .log .now in
     let n = s .args .n in
     let l = c .before .before .before .before .before .before .before .before .before .loop in
-    let begun =
-    flat-begin b n (s .pre .0) (l .i) (l .reads) (l .writes) (l .inv .1) _ _ _ (c .before .before .before .before .before .before .before .before .before .before .begins .ensures .each (l .i) (omega (arith, s .pre .0 .many, s .pre .1))) (c .before .before .before .before .before .kept .ensures) (c .before .before .before .before .kept2 .ensures) in (
+    let word = c .before .before .before .before .before .before .before .before .before .before .begins .ensures .each (l .i) (omega (arith, s .pre .0 .many, s .pre .1)) in
+    let begun = flat-begin b n (s .pre .0) (l .i) (l .reads) (l .writes) (l .inv .1) _ _ (c .before .before .before .before .before .kept .ensures _ word) (c .before .before .before .before .kept2 .ensures _ word) in (
       omega arith,
       flat-next b n (s .pre .0) (l .i) _ _ begun _ (c .before .before .before .before .before .before .before .body-of .ensures .is ∙ flat-record b n (l .i) (s .pre .0) (omega (arith, s .pre .1)))
-          (sym (c .before .before .before .faults .ensures) ∙ c .before .before .if1 .left) _ _ _ refl (c .before .mark .ensures) (c .mark2 .ensures),
+          (sym (c .before .before .before .faults .ensures) ∙ c .before .before .if1 .left) _ _ _ refl (c .before .mark .ensures) (c .mark-write .ensures),
     )
 
 returns-2 : tie.Need-returns-2 Inv-loop μ-loop
@@ -81,14 +88,16 @@ count-good-spec =
     loop-holds
     body-of-requires
     cast-key
+    mul-kept
     array-read-kept
     kept-requires
+    mul-kept-2
     array-read-kept-2
     kept-requires-2
     faults-requires
     returns
     mark-requires
-    mark-requires-2
+    mark-write-requires
     add-i
     loop-less
     loop-again

@@ -22,8 +22,8 @@ pick-requires c κs = let l = c .before .before .loop in
     (f .begun .progress, λ x m. f .begun .inside x m .0, filling-open _ _ _ _ (l .k) _ _ _ _ (l .out) f (omega arith))
 
 prune-requires : tie.Need-prune-requires Inv-loop μ-loop
-prune-requires c κs = let st = c .before .before .before .before .before .before .loop .inv .begun .progress in
-    record { given = st .ready .given; partial = c .before .before .before .pick .ensures .placed .partial; fit = st .ready .fit }
+prune-requires c κs = let st = c .before .before .before .before .before .before .before .loop .inv .begun .progress in
+    record { given = st .ready .given; partial = c .before .before .before .before .pick .ensures .placed .partial; fit = st .ready .fit }
 
 without-requires : tie.Need-without-requires Inv-loop μ-loop
 without-requires c κs =
@@ -45,7 +45,7 @@ loop-less c = omega arith
 
 loop-again : tie.Need-loop-again Inv-loop μ-loop
 loop-again c = let l = c .before .before .before .before .before .before .before .before .before .loop in
-    filling-next _ _ _ _ (l .k) _ _ _ _ (l .out) (l .inv) (omega arith) _ _ _ (c .before .before .before .before .before .before .pick .ensures) _ _ _ (c .before .before .prune .ensures) _ (one-less _ _ _ (c .without .ensures))
+    filling-next _ _ _ _ (l .k) _ _ _ _ (l .out) (l .inv) (omega arith) _ _ _ (c .before .before .before .before .before .before .pick .ensures) _ _ _ (c .before .prune .ensures) _ (one-less _ _ _ (c .without .ensures))
 
 returns : tie.Need-returns Inv-loop μ-loop
 returns c = let l = c .before .loop in filling-end _ _ _ _ (l .k) _ _ _ _ (l .out) (l .inv) (omega (arith, l .inv .bound))
