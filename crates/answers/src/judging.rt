@@ -15,7 +15,7 @@ pub fn judged(log: &[u8], begin: &[u32], end: &[u32], drift: u32, proposed: &[u8
     requires { timed_number log.now (times begin.now end.now drift) ≡ 0 }
     ensures { result ≡ judgement_of (order_refusal (transactions_in log.now) proposed.now) (legal (timed_history log.now (times begin.now end.now drift)) proposed.now) }
 {
-    let n = log::transactions(log);
+    let n = logs::transactions(log);
     if !is_order(n as u32, proposed) {
         return Judgement::Refused(13);
     }

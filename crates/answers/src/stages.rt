@@ -35,7 +35,7 @@ fn claims_order(bytes: &[u8], length: usize, order: &[u8]) -> bool
     requires { (length ≤ ListN.length bytes.now) × (load_number (ListN.take length bytes.now) ≡ 0) × (32 ≤ ListN.length order.now) }
     ensures { result ≡ claims_order bytes.now length order.now }
 {
-    let n = log::transactions(&bytes[..length]);
+    let n = logs::transactions(&bytes[..length]);
     is_order(n as u32, &order[..n])
 }
 

@@ -39,11 +39,11 @@ fn times_number(n: usize, begin: &[u32], end: &[u32], drift: u32) -> u8
 pub fn timed_number(log: &[u8], begin: &[u32], end: &[u32], drift: u32) -> u8
     ensures { result ≡ timed_number log.now (times begin.now end.now drift) }
 {
-    let number = log::number(log);
+    let number = logs::number(log);
     if number != 0 {
         return number;
     }
-    let n = log::transactions(log);
+    let n = logs::transactions(log);
     times_number(n, begin, end, drift)
 }
 

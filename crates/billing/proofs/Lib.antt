@@ -1,5 +1,4 @@
 pub mod Prices
 pub mod Tallies
 pub mod Making
-pub mod Data
-pub mod Callees
+pub mod Placed

@@ -2,6 +2,8 @@
 // program in C, and contracts speak of arguments by name; so this is what notices if two of one type change places.
 // The window is document 01's C, two transactions that write key 0, with values 7 and 9. By its times 1, from second 5 to 255, ends before 0 begins, from second 256 to
 // 70,000. With the lists exchanged each begin is after its end; with the low bytes exchanged 1 would not end before 0 begins. Times of other lengths than 8 bytes each, or none, are 37.
+#![tactic(auto)]
+
 use host::{
     beaconcrumb_bills, beaconcrumb_check, beaconcrumb_check_strict, beaconcrumb_decide,
     beaconcrumb_decide_from, beaconcrumb_decide_strict, beaconcrumb_encode,

@@ -12,7 +12,7 @@ use samples::same_case;
 
 // Windows, and those with times; those with an order, and of these those whose order is not the log's; those without one; bills of more than no mills, and
 // those with a negative travel; and bills, sums and refusals that are not as they must be. The gates that stood higher in the end, and lower, in some window.
-#[derive(Drop)]
+#[derive(Clone, Copy)]
 pub struct Tally {
     pub windows: u64,
     pub timed: u64,
@@ -33,7 +33,7 @@ fn more(n: u64, yes: bool) -> u64 {
 // ---- one window
 
 // What Order and Table write: T numbers with zeros behind them, and the values.
-#[derive(Drop)]
+#[derive(Clone, Copy)]
 struct Result {
     order: [u8; 32],
     table: [u16; 32],
@@ -63,7 +63,7 @@ fn all_agree(list: [Bill; 20], log: &[u8], starting: [u16; 32], order: [u8; 32])
 }
 
 // All mills together; all travel that is positive, and all that is negative.
-#[derive(Drop)]
+#[derive(Clone, Copy)]
 struct Sums {
     mills: u64,
     up: u64,

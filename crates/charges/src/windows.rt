@@ -4,7 +4,7 @@ use checker::Clock;
 use samples::tables::drawn;
 
 // A log, which is the first `length` bytes, the table that it starts from, its times, and the setting to decide it in.
-#[derive(Drop)]
+#[derive(Clone, Copy)]
 pub struct Window {
     pub bytes: [u8; 1156],
     pub length: usize,

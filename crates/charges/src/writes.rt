@@ -1,7 +1,7 @@
 // Logs of a few writes, each a transaction of its own: without reads and times the order is that of the log.
 
 // Up to eight writes: the cabinet, the key and the value of each.
-#[derive(Drop)]
+#[derive(Clone, Copy)]
 pub struct Writes {
     pub count: usize,
     pub cabinet: [u8; 8],

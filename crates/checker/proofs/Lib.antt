@@ -2,10 +2,7 @@ pub mod Holding
 pub mod Loads
 pub mod Checks
 pub mod Writing
-pub mod Billing
 pub mod Encodes
-pub mod Data
-pub mod Callees
 pub mod Verdicts
 pub mod Chain
 pub mod Whole
@@ -14,4 +11,3 @@ pub mod Starting
 pub mod Timing
 pub mod Demands
 pub mod Preparing
-pub mod Lending

@@ -13,7 +13,7 @@ use listing::{PLACES, WORDS};
 
 // What is found out before Decide writes anything: the refusal or 0; the plan, of whose numbers the first are the constraints left; whether there is an
 // order, and its numbers; and how many constraints are left. Beside a refusal there is nothing to write.
-#[derive(Drop)]
+#[derive(Clone, Copy)]
 pub(crate) struct Prepared {
     pub number: u8,
     pub plan: Plan,

@@ -1,5 +1,7 @@
 // The case and the calls. A case goes into each call by value and comes back from it in the answer.
 // Anyone may put a case together, so each call first finds the stage that it counts as (`held::stage_of`); no call requires anything.
+#![tactic(auto)]
+
 ghost use Rattle.std.specs.Prelude.{◌≡◌, length};
 ghost use Rattle.model.specs.Times.{times};
 ghost use Rattle.model.specs.Window.{window};
@@ -22,7 +24,7 @@ mod polygraphs;
 mod results;
 
 // The stage that it says, the log in its room, the table that the window starts from, its times, and the order.
-#[derive(Drop)]
+#[derive(Clone, Copy)]
 pub struct Case {
     pub stage: Stage,
     pub bytes: [u8; 1156],
@@ -33,20 +35,20 @@ pub struct Case {
 }
 
 // The case after the call, and the reply.
-#[derive(Drop)]
+#[derive(Clone, Copy)]
 pub struct Answer {
     pub case: Case,
     pub reply: Reply,
 }
 
-#[derive(Drop)]
+#[derive(Clone, Copy)]
 pub struct Checking {
     pub case: Case,
     pub judgement: Judgement,
 }
 
 // The case as it was, the reply, and the count of constraints left.
-#[derive(Drop)]
+#[derive(Clone, Copy)]
 pub struct Encoding {
     pub case: Case,
     pub reply: Reply,
@@ -54,7 +56,7 @@ pub struct Encoding {
 }
 
 // The case with the answer stored, the verdict, the order as 32 numbers, and the count that Encode gives.
-#[derive(Drop)]
+#[derive(Clone, Copy)]
 pub struct Decision {
     pub case: Case,
     pub verdict: Verdict,

@@ -5,7 +5,7 @@ use listing::{PLACES, WORDS};
 
 // The tables and the numbers of the constraints, and their count before pruning. The count stands between the two arrays because the compiler then
 // copies them less often (docs/DECISIONS.md).
-#[derive(Drop)]
+#[derive(Clone, Copy)]
 pub(crate) struct Plan {
     pub tables: [u32; WORDS],
     pub count: u16,

@@ -10,7 +10,7 @@ use answers::settings::{places_refusal, setting_refusal};
 use listing::{PLACES, WORDS};
 
 // What Encode does: the number with which it refuses, or 0 and the plan of the polygraph, with its known edges before pruning.
-#[derive(Drop)]
+#[derive(Clone, Copy)]
 pub(crate) struct Planning {
     pub number: u8,
     pub plan: Plan,

@@ -22,7 +22,7 @@ pub(crate) fn order_refused(c: Case, places: usize) -> u8
     }
     let bytes = c.bytes;
     let length = c.length;
-    let n = log::transactions(&bytes[..length]);
+    let n = logs::transactions(&bytes[..length]);
     refused_by(stage, n, places)
 }
 
@@ -41,7 +41,7 @@ pub(crate) fn write_order(c: Case, out: &mut [u8])
     let bytes = c.bytes;
     let length = c.length;
     let order = c.order;
-    let n = log::transactions(&bytes[..length]);
+    let n = logs::transactions(&bytes[..length]);
     copy_bytes(&order, n, out);
 }
 
@@ -54,12 +54,12 @@ pub(crate) fn write_table(c: Case, out: &mut [u16])
     let length = c.length;
     let starting = c.starting;
     let order = c.order;
-    let n = log::transactions(&bytes[..length]);
+    let n = logs::transactions(&bytes[..length]);
     answers::results::write_table(&bytes[..length], starting, &order[..n], out);
 }
 
 // What Bills writes: the number with which it refuses, or 0; the bills, and how many of them go to the list: none beside a refusal, else all sixteen.
-#[derive(Drop)]
+#[derive(Clone, Copy)]
 pub(crate) struct Made {
     pub number: u8,
     pub bills: [Bill; 16],
@@ -94,7 +94,7 @@ pub(crate) fn bills_made(c: Case, places: usize) -> Made
     let length = c.length;
     let starting = c.starting;
     let order = c.order;
-    let n = log::transactions(&bytes[..length]);
+    let n = logs::transactions(&bytes[..length]);
     let bills = billing::bills(&bytes[..length], &order[..n], starting);
     Made {
         number: 0,

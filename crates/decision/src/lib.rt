@@ -1,6 +1,8 @@
 // The first legal order of a log with times, from its bytes, the constraints that pruning 0 or 1 leaves, as candidates' numbers, and the closed words of its known
 // edges. Nothing here looks at the times: the words and what pruning left have them.
 // The search prunes by itself, and the first legal order is the same in all six settings.
+#![tactic(auto)]
+
 ghost use Rattle.std.specs.Prelude.{◌≡◌, ◌≤◌, ◌*◌, length};
 ghost use Rattle.model.specs.Log.{load_number};
 ghost use Rattle.listing.specs.Candidates.{items_by};
@@ -45,7 +47,7 @@ fn first_of_few<'a, 'b>(
     requires { (load_number log.now ≡ 0) × (n ≤ 64) × Settled log.now tables.now chosen.now n closed × PartialOrder closed }
     ensures { First log.now tables.now chosen.now n closed result }
 {
-    let t = log::transactions(log);
+    let t = logs::transactions(log);
     let mut out = [0u32; FEW_WORDS];
     words(tables, chosen, n, &mut out);
     search::order::first_closed(closed, &out, n, t)
@@ -62,7 +64,7 @@ fn first_of_some<'a, 'b>(
     requires { (load_number log.now ≡ 0) × (n ≤ 512) × Settled log.now tables.now chosen.now n closed × PartialOrder closed }
     ensures { First log.now tables.now chosen.now n closed result }
 {
-    let t = log::transactions(log);
+    let t = logs::transactions(log);
     let mut out = [0u32; SOME_WORDS];
     words(tables, chosen, n, &mut out);
     search::order::first_closed(closed, &out, n, t)
@@ -79,7 +81,7 @@ fn first_of_many<'a, 'b>(
     requires { (load_number log.now ≡ 0) × Settled log.now tables.now chosen.now n closed × PartialOrder closed }
     ensures { First log.now tables.now chosen.now n closed result }
 {
-    let t = log::transactions(log);
+    let t = logs::transactions(log);
     let mut out = [0u32; ALL_WORDS];
     words(tables, chosen, n, &mut out);
     search::order::first_closed(closed, &out, n, t)

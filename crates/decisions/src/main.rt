@@ -1,6 +1,8 @@
 // Decide, Order and Table of many small random histories, in the six settings, against a search through all permutations and a direct replay: up to 6
 // transactions over 1 to 3 keys, with good, bad and starting reads, read-backs, shared cabinets, blind writes, read-modify-write chains and rings. Each
 // starts from a random table, and is decided as it is from zeros. Some four in ten have times.
+#![tactic(auto)]
+
 use checker::{Case, Clock, Decision, Stage, Verdict};
 use direct::Polygraph;
 use results::Expected;
@@ -18,7 +20,7 @@ const COUNT: u64 = 1000;
 // Order and Table of its case; refusals of Order and Table; decisions on a list that another was made on; decisions from zeros and from the history's table.
 // Of the histories with times: those whose times agree with the serial order that they were drawn by; those with an order and without; those where the clock alone
 // takes the order away, or makes another the first.
-#[derive(Drop)]
+#[derive(Clone, Copy)]
 pub struct Tally {
     pub backs: u64,
     pub lowest: u64,

@@ -4,7 +4,7 @@ use samples::same_case;
 
 // The table that a history of `size` transactions starts from, and its times; whether it has a legal order; the first one, with zeros behind it or, where there
 // is none, 32 zeros; and the table that its replay leaves.
-#[derive(Drop)]
+#[derive(Clone, Copy)]
 pub struct Expected {
     pub starting: [u16; 32],
     pub clock: Clock,

@@ -3,7 +3,7 @@
 use crate::{History, bit, ends, good, has, successor, without};
 
 // The sets of sources and the targets of a constraint.
-#[derive(Drop)]
+#[derive(Clone, Copy)]
 pub struct Sides {
     pub from_a: u32,
     pub to_a: u32,

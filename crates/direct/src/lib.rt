@@ -2,13 +2,15 @@
 // test: the log's bytes are read into tables (this file), the known edges and the constraints are listed from them (modules `edges`, `constraints`), pruning
 // goes by passes with all paths found afresh before each constraint (module `passes`), and an order is replayed on a table (module `tables`). The contracts
 // say nothing; the functions are proved safe and ending.
+#![tactic(auto)]
+
 pub mod constraints;
 pub mod edges;
 pub mod passes;
 pub mod tables;
 
 // A begin and an end for each transaction, and the drift; or none, where `timed` is false.
-#[derive(Drop)]
+#[derive(Clone, Copy)]
 pub struct Times {
     pub timed: bool,
     pub begin: [u32; 32],
@@ -19,7 +21,7 @@ pub struct Times {
 // What a log that Load takes says, of `size` transactions. Bit t of `writers[k]` is set where t writes key k; place 32 * t + k of `names` is what t's read
 // of key k names, or NONE; the first `count` of `reads` are such places, in body order. A read-back is no such read: the write before it in its transaction
 // explains it, and it adds nothing. `backs` is how many there are.
-#[derive(Drop)]
+#[derive(Clone, Copy)]
 pub struct History {
     pub size: usize,
     pub cabinet: [u8; 32],
@@ -208,7 +210,7 @@ pub fn successor(h: History, key: usize, u: usize) -> usize {
 
 // The polygraph of a history in a setting: how many constraints there are before pruning, how many are left, and the known edges. The constraints
 // themselves are in a list.
-#[derive(Drop)]
+#[derive(Clone, Copy)]
 pub struct Polygraph {
     pub count: usize,
     pub left: usize,

@@ -3,7 +3,7 @@ use crate::constraints::{Sides, at, put};
 use crate::{bit, has};
 
 // The known edges, and how many constraints are left.
-#[derive(Drop)]
+#[derive(Clone, Copy)]
 pub struct Left {
     pub rows: [u32; 32],
     pub left: usize,

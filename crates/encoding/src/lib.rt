@@ -1,4 +1,6 @@
 // The polygraph of a log and its times in a setting: planned into tables and numbers that the caller lends, then written to the list that the caller lends.
+#![tactic(auto)]
+
 ghost use Rattle.std.specs.Prelude.{◌≡◌, ℕ, ◌≤◌, ◌-◌, ◌++◌, length, replicate, drop};
 ghost use Rattle.model.specs.History.{History};
 ghost use Rattle.model.specs.Log.{history_of};
@@ -16,7 +18,7 @@ use pruning::Pruned;
 
 // What is known of a polygraph before anything is written, beside the tables and the numbers of its constraints: the known edges before pruning, and
 // the count of constraints before pruning.
-#[derive(Drop)]
+#[derive(Clone, Copy)]
 pub struct Known {
     pub rows: [u32; 32],
     pub count: u16,
@@ -55,7 +57,7 @@ pub fn prepare(
     requires { (timed_number log.now (times begin.now end.now drift) ≡ 0) × (encoding ≤ 2) × Space tables.old chosen.old }
     ensures { Planned (timed_history log.now (times begin.now end.now drift)) encoding tables.new chosen.new result.rows result.count }
 {
-    let n = log::transactions(log);
+    let n = logs::transactions(log);
     let mut writers = [0u32; 32];
     let mut reads = [0u32; 256];
     let read = polygraph::decode(log, &mut writers, &mut reads);

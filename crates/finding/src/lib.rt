@@ -1,4 +1,6 @@
 // What Decide finds over the bytes of a log that Load takes with its times, without a list of constraints: one way for the call on the case and for the functions for C.
+#![tactic(auto)]
+
 ghost use Rattle.std.specs.Prelude.{◌≡◌, true, ◌⊎◌, List, ℕ, ◌≤◌};
 ghost use Rattle.model.specs.Times.{times, timed_number, timed_history};
 ghost use Rattle.model.specs.Polygraph.{reach};
@@ -14,7 +16,7 @@ use answers::settings::{places_refusal, setting_refusal};
 use listing::{PLACES, WORDS};
 
 // The refusal or 0; whether there is an order, and its numbers; the count of constraints before pruning and, where a list is to be written, of those left.
-#[derive(Drop)]
+#[derive(Clone, Copy)]
 pub struct Outcome {
     pub number: u8,
     pub found: bool,

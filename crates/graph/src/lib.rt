@@ -1,5 +1,7 @@
 // Directed graphs on 32 nodes, as 32 row words: bit v of word u stands for the edge from u to v. They are taken and returned by value, but for `take`, which changes them in place.
 // `Closed words' are those of `reach`: bit v of word u stands for a path of one or more edges from u to v.
+#![tactic(auto)]
+
 ghost use Rattle.std.specs.Prelude.{◌≡◌, ℕ, ◌<◌, ◌≤◌, List};
 ghost use Rattle.model.specs.Polygraph.{with_side, through, reach, closed_off};
 ghost use Rattle.model.specs.RowWords.{Tidy, «cyclic», side_in};

@@ -1,6 +1,8 @@
 // Document 01's histories A to J, histories with read-backs, the program's example and the logs with the most constraints, through the calls: what Load
 // says, what Decide says and in how many of the six settings, and how many constraints Encode gives in encodings 0, 1 and 2, before pruning and after it;
 // then what Table gives of each from levels that are not zeros, but for the logs with the most constraints. Then what Judge prints for each kind of answer.
+#![tactic(auto)]
+
 use checker::{Case, Decision, Verdict};
 use samples::lines::{end, number, text, value, yes_no};
 use samples::tables::levels;

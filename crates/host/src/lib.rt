@@ -2,6 +2,8 @@
 // and Bills take a begin and an end for each transaction, as bytes, and a drift; the others are for windows without times.
 // A slice passes as a pointer and a length.
 // include/beaconcrumb.h says what each gives; the contracts say it as equations with the definitions of `codes`, which are made of the calls' own.
+#![tactic(auto)]
+
 ghost use Rattle.std.specs.Prelude.{◌≡◌, true, ℕ, T, length, take};
 ghost use Rattle.model.specs.History.{History, is_order};
 ghost use Rattle.model.specs.Log.{load_number, transactions_in};
@@ -44,11 +46,11 @@ fn lengths_refused(log: &[u8], begin: &[u8], end: &[u8]) -> u32
     if (begin.len() == 0) & (end.len() == 0) {
         return 0;
     }
-    let number = log::number(log) as u32;
+    let number = logs::number(log) as u32;
     if number != 0 {
         return number;
     }
-    let bytes = 4 * log::transactions(log);
+    let bytes = 4 * logs::transactions(log);
     if (begin.len() == bytes) & (end.len() == bytes) {
         return 0;
     }
@@ -120,7 +122,7 @@ fn write(
     if table.len() < 64 {
         return 25;
     }
-    let n = log::transactions(log);
+    let n = logs::transactions(log);
     if order.len() < n {
         return 25;
     }
@@ -294,7 +296,7 @@ pub extern "C" fn beaconcrumb_bills(
     if out.len() < 192 {
         return 25;
     }
-    let n = log::transactions(log);
+    let n = logs::transactions(log);
     let values = images::values(start);
     let bills = billing::bills(log, &order[..n], values);
     images::put_bills(bills, out);

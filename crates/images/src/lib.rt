@@ -1,4 +1,6 @@
 // Numbers as bytes, low byte first: a table's values, written and read, times, read, a polygraph, and bills.
+#![tactic(auto)]
+
 ghost use Rattle.std.specs.Prelude.{◌≡◌, ◌≤◌, ◌*◌, ◌+◌, ◌/◌, length, take};
 ghost use Rattle.codes.specs.Images.{pair_bytes, word_bytes, word_at, constraint_bytes, filled, value_in, values_in, seconds_in, row_in, words_in, twos, bill_bytes, bill_in};
 
@@ -45,7 +47,7 @@ pub fn values(bytes: &[u8]) -> [u16; 32]
     let mut out = [0u16; 32];
     let mut i: usize = 0;
     while i < 32 {
-        out[i] = log::fields::pair(bytes, 2 * i) as u16;
+        out[i] = logs::fields::pair(bytes, 2 * i) as u16;
         i += 1;
     }
     out
@@ -56,8 +58,8 @@ fn word(bytes: &[u8], at: usize) -> u32
     requires { at + 4 ≤ length bytes.now }
     ensures { result ≡ word_at bytes.now at }
 {
-    let low = log::fields::pair(bytes, at);
-    let high = log::fields::pair(bytes, at + 2);
+    let low = logs::fields::pair(bytes, at);
+    let high = logs::fields::pair(bytes, at + 2);
     (low + 65536 * high) as u32
 }
 

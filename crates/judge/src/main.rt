@@ -3,12 +3,17 @@
 //
 // The buffer holds more than any log. Of longer input the first 4,096 bytes are judged, and they are refused with the number that the whole calls
 // for (`judge_prefix` in `report`). No input is a log of 0 bytes, 'refused 1'. Where a read fails, what came before it is judged.
-use libc::{STDIN_FILENO, STDOUT_FILENO};
+#![tactic(auto)]
+
+// the numbers of the standard streams
+const STDIN: i32 = 0;
+
+const STDOUT: i32 = 1;
 
 fn main() {
     let mut input = io::buffer();
-    let n = io::read_full(STDIN_FILENO, &mut input);
+    let n = io::read_full(STDIN, &mut input);
     let mut text = [0u8; 1024];
     let r = judging::judge(&input[..n], &mut text);
-    io::write_all(STDOUT_FILENO, &text[..r]);
+    io::write_all(STDOUT, &text[..r]);
 }

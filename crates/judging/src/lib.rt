@@ -1,5 +1,7 @@
 // What Judge does with a log: Load beside 32 zeros and no times, Decide with encoding 2 and pruning 1, Order and Table; and the text of what they give, in a buffer that is long
 // enough. The keys that are written come from the log.
+#![tactic(auto)]
+
 ghost use Rattle.std.specs.Prelude.{◌≡◌, ◌≤◌, length};
 ghost use Rattle.model.specs.Log.{load_number, history_of};
 ghost use Rattle.model.specs.Search.{first_legal};
@@ -21,7 +23,7 @@ fn ordered(log: &[u8], c: Case, out: &mut [u8]) -> usize
     let o = c.order(&mut order);
     let mut table = [0u16; 32];
     let t = c.table(&mut table);
-    let n = log::transactions(log);
+    let n = logs::transactions(log);
     let writers = polygraph::writers(log);
     report::found_text(order, n, writers, table, out)
 }

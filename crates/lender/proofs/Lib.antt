@@ -1,5 +1,3 @@
-pub mod Callees
 pub mod Fresh
 pub mod Packs
-pub mod Places
 pub mod Within

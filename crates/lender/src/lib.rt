@@ -1,5 +1,7 @@
 // Encode and Decide for callers that have no list of constraints, and a planned polygraph as words for those that have no case either: each function here but `pack`
 // makes a list of its own and lends it, so that its callers, who pass numbers and slices of numbers, need no proof by hand.
+#![tactic(auto)]
+
 ghost use Rattle.std.specs.Prelude.{◌≡◌, ℕ, ◌≤◌, ◌*◌, length, replicate};
 ghost use Rattle.model.specs.History.{History};
 ghost use Rattle.model.specs.Lent.{no_constraint};

@@ -7,7 +7,7 @@ use samples::{
 };
 
 // An operation: a write, or a read that names the start, its own transaction, another one, or 32.
-#[derive(Drop)]
+#[derive(Clone, Copy)]
 enum Op {
     Write,
     Start,

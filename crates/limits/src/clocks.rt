@@ -11,7 +11,7 @@ const TOP: u32 = 4294967295;
 // ---- lists of one second throughout
 
 // What Load is asked beside the log: so many values of the starting table; so many begins, each at that second; so many ends, each at second 7; the drift.
-#[derive(Drop)]
+#[derive(Clone, Copy)]
 struct Asked {
     values: usize,
     begins: usize,

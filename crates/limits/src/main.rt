@@ -1,5 +1,7 @@
 // The numbers of Load, Check and the state, each provoked at its first and last possible place, and what stands at the limits taken.
 // In the full log the entries begin at byte 4, the last at 128; the bodies begin at byte 132, the last at 1152.
+#![tactic(auto)]
+
 use checker::Case;
 use samples::lines::{end, line1, line2, text, yes_no};
 use samples::{

@@ -5,7 +5,6 @@ pub mod Stepping
 pub mod Keys
 pub mod PlainFill
 pub mod Lists
-pub mod Data
 pub mod Sequences
 pub mod Pairs
 pub mod RunWords
@@ -13,4 +12,3 @@ pub mod Between
 pub mod RunTables
 pub mod PlainList
 pub mod Whole
-pub mod Lending

@@ -14,7 +14,7 @@ use Rattle.model.specs.Log.{transactions_in, operations_in, count_at, start_at, 
 use Rattle.model.proofs.Basics.{same?, decide}
 use Rattle.model.proofs.Loops.{each_snoc}
 use Rattle.model.proofs.Loaded.{Loaded, loaded, counts_suc, counts_mono, within}
-use Rattle.log.specs.Reading.{IsOperation}
+use Rattle.logs.specs.Reading.{IsOperation}
 use Rattle.graph.specs.Members.{members}
 use Rattle.listing.specs.Choosing.{Chose, in_row}
 use Rattle.listing.specs.Plain.{plain_mask, body_word, body_numbers, plain_numbers_of, plain_numbers, PlainTable}

@@ -1,6 +1,8 @@
 // The listing of all three encodings, from tables, into a list that the caller lends.
 // Candidates are numbers in document 01's order. The tables say what a candidate's constraint is, and a list of numbers which of them are constraints;
 // both are lent.
+#![tactic(auto)]
+
 ghost use Rattle.std.specs.Prelude.{◌≡◌, ◌<◌, ◌≤◌, ◌+◌, ◌++◌, length, get_or, drop};
 ghost use Rattle.graph.specs.Members.{members};
 ghost use Rattle.listing.specs.Candidates.{pair_item, chain_item, plain_item, ends_by, item_by, items_by};

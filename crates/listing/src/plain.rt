@@ -1,7 +1,7 @@
 // The tables of encoding 0.
 ghost use Rattle.std.specs.Prelude.{◌≡◌, ◌<◌, ◌≤◌, ◌+◌, length, get_or};
 ghost use Rattle.model.specs.Log.{load_number, transactions_in, operations_in, start_at, count_at};
-ghost use Rattle.log.specs.Reading.{InLog};
+ghost use Rattle.logs.specs.Reading.{InLog};
 ghost use Rattle.listing.specs.Choosing.{Chose};
 ghost use Rattle.listing.specs.Plain.{plain_mask, plain_numbers_of, plain_numbers, PlainTable};
 
@@ -42,12 +42,12 @@ fn rows(
     ensures { PlainTable log.now (start_at log.now t + count_at log.now t) out.new
         × Chose (plain_numbers_of log.now writers.now t (count_at log.now t)) from chosen.old result chosen.new }
 {
-    let first = log::start(log, t);
-    let count = log::count(log, t);
+    let first = logs::start(log, t);
+    let count = logs::count(log, t);
     let mut n = from;
     let mut m: usize = 0;
     while m < count {
-        let o = log::operation(log, t, m);
+        let o = logs::operation(log, t, m);
         let key = o.key;
         let i = first + m;
         out[i] = (t + 32 * (o.argument % 32)) as u32;
@@ -68,7 +68,7 @@ pub fn table(
     ensures { PlainTable log.now (operations_in log.now) out.new × (get_or out.new 1024 0 ≡ 0)
         × Chose (plain_numbers log.now writers.now (transactions_in log.now)) 0 chosen.old result chosen.new }
 {
-    let n = log::transactions(log);
+    let n = logs::transactions(log);
     let mut count: u16 = 0;
     let mut t: usize = 0;
     while t < n {

@@ -1,6 +1,8 @@
 // What Encode writes, against a second, direct listing: of small random histories and of full windows, some with read-backs, in the six settings, with
 // lists exactly as long as they must be, longer, and too short by one place or one word. Each log is loaded beside a random starting table, of which the
 // direct listing knows nothing. Then the same with times.
+#![tactic(auto)]
+
 use checker::{Case, Clock, Encoding, Reply};
 use direct::Polygraph;
 use samples::clocks::{loaded_by, none};
@@ -22,7 +24,7 @@ const FULL: u64 = 4;
 const WORD: u32 = 2863311530;
 
 // A setting, and the lists that are lent: so many places that each hold `mark` in all four fields, and so many row words.
-#[derive(Drop)]
+#[derive(Clone, Copy)]
 pub struct Lent {
     pub encoding: u8,
     pub pruning: u8,
@@ -32,7 +34,7 @@ pub struct Lent {
 }
 
 // What Encode gives and leaves: its number, its count, whether the case is as it was, and the 40 words that it was lent some of.
-#[derive(Drop)]
+#[derive(Clone, Copy)]
 pub struct Seen {
     pub number: u64,
     pub left: usize,
@@ -42,7 +44,7 @@ pub struct Seen {
 
 // The logs with a read-back; those with times, and those of them where the clock gives an edge; the polygraphs, their constraints and those left; those that
 // are not as the direct listing has them; and the refusals.
-#[derive(Drop)]
+#[derive(Clone, Copy)]
 pub struct Tally {
     pub backs: u64,
     pub timed: u64,
@@ -271,7 +273,7 @@ fn empty() -> Tally {
 }
 
 // Where the logs come from: small histories of a kind; those of a kind with 32 transactions over 4 keys; full windows of a shape.
-#[derive(Drop)]
+#[derive(Clone, Copy)]
 enum Source {
     Small(u8),
     FewKeys(u8),

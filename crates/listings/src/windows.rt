@@ -1,7 +1,7 @@
 // Full windows over many keys: 32 transactions of 8 operations, 256 in all. What each reads is what a run in some order would have read.
 
 // A log that is being written, and the last writer of each key so far.
-#[derive(Drop)]
+#[derive(Clone, Copy)]
 pub struct Window {
     pub bytes: [u8; 1156],
     pub last: [u16; 32],
@@ -9,7 +9,7 @@ pub struct Window {
 
 // What a transaction does with its keys: it reads or writes each of eight; it reads and writes each of four; or it reads, writes and reads back two, and
 // writes and reads back a third.
-#[derive(Drop)]
+#[derive(Clone, Copy)]
 pub enum Form {
     Singles,
     Pairs,
@@ -18,7 +18,7 @@ pub enum Form {
 
 // What sets windows apart: the form, and with Singles how many operations there are for each read; how many keys there are for an operation to choose from;
 // whether some reads name anything.
-#[derive(Drop)]
+#[derive(Clone, Copy)]
 pub struct Shape {
     pub form: Form,
     pub sparse: u64,
@@ -73,7 +73,7 @@ const WRITE: u8 = 1;
 const BACK: u8 = 2;
 
 // An operation's key, by its number among those of the transaction, and what it does with it.
-#[derive(Drop)]
+#[derive(Clone, Copy)]
 struct Role {
     slot: u64,
     act: u8,

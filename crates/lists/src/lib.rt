@@ -1,5 +1,7 @@
 // Encode, Decide and Bills on lists as the test programs want them: of so many places, each of which holds a mark, with all of them shown; and Decide twice on
 // one list. As in `lender`, callers need no proof by hand. And what they compare: lists of words.
+#![tactic(auto)]
+
 ghost use Rattle.std.specs.Prelude.{◌≡◌, ◌++◌, ◌≤◌, ◌*◌, ◌-◌, length, replicate};
 ghost use Rattle.checker.specs.Encodings.{encode_answer, encode_list, encode_rows};
 ghost use Rattle.checker.specs.Decisions.{deciding, list_after_decide};
@@ -64,7 +66,7 @@ pub fn decide_again(
 }
 
 // What Bills gave, and the list that it left.
-#[derive(Drop)]
+#[derive(Clone, Copy)]
 pub struct Billed {
     pub answer: Answer,
     pub list: [Bill; 20],

@@ -264,7 +264,7 @@ module _ (h : History) (few : size h ≤ 32) (table o : List ℕ) (t : ℕ) (sma
   values_run so_far e earlier [] s low = tt
   values_run so_far e earlier (r ∷ os) s low =
       let next = stands_next so_far e earlier os r s in
-      and_in (its_writers earlier r) (all_after its_writers (r ∷ earlier) os) (value_one so_far e earlier os r s low.0) (values_run _ next.0 (r ∷ earlier) os next.1 low.1)
+      and_in (its_writers earlier r) (all_after its_writers (r ∷ earlier) os) (value_one so_far e earlier os r s low.0) (values_run (λ k. cond (write_of k r) r.argument (so_far k)) next.0 (r ∷ earlier) os next.1 low.1)
 
   values_of : T (good_keys t (operations_of h t)) → All (λ r. r.key < length table) (operations_of h t) → T (all_after its_writers [] (operations_of h t))
   unfolding good_keys outward

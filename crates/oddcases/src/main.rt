@@ -1,6 +1,8 @@
 // Cases put together outside the calls, of each odd kind: what Load of a good log, Check, Order and Table say of each. 100 stands for a legal order.
 // The log is document 01's example, whose order is 1 0. The cases start from levels that are not zeros; then from tables of other kinds, which change how
 // none of them counts. They have no times; the module `times` has those that do.
+#![tactic(auto)]
+
 use checker::{Case, Stage};
 use samples::clocks::none;
 use samples::lines::{byte, end, number, text, value, yes_no};

@@ -1,6 +1,8 @@
 // Check on every list of four numbers, against a direct replay, over many small histories of four transactions with three operations each, read-backs
 // among them: first without times; then with times; then with times where all operations are writes, so that only the cabinets and the clock have a say.
 // For each list the log is loaded beside another random starting table, of which the direct replay knows nothing.
+#![tactic(auto)]
+
 use checker::Clock;
 use samples::clocks::{loaded_by, none};
 use samples::lines::{end, number, text};
@@ -11,7 +13,7 @@ use std::num::wrapping_add_u64;
 mod times;
 
 // What sets the rounds apart: whether the windows have times, and whether all operations are writes.
-#[derive(Drop)]
+#[derive(Clone, Copy)]
 pub struct Round {
     pub timed: bool,
     pub blind: bool,
@@ -31,7 +33,7 @@ pub(crate) fn chance(h: u64, k: u64) -> u64 {
 }
 
 // The kind, key and argument of an operation.
-#[derive(Drop)]
+#[derive(Clone, Copy)]
 pub struct Op {
     pub kind: u8,
     pub key: u8,
@@ -289,7 +291,7 @@ fn direct(log: &[u8], clock: Clock, list: [u8; 4]) -> u64 {
 
 // The histories with a read-back; the lists by what Check says of them; those that would be legal but for the times; those that the direct replay says
 // something else of.
-#[derive(Drop)]
+#[derive(Clone, Copy)]
 pub struct Tally {
     pub backs: u64,
     pub refused: u64,

@@ -1,11 +1,13 @@
 // The tables of a loaded log, its reads as numbers, and its known edges from these.
 // What a read names is picked from values at hand: a window's reads are of all kinds, and a branch that is guessed wrong costs more than the work.
+#![tactic(auto)]
+
 ghost use Rattle.std.specs.Prelude.{◌≡◌, cond, List, eqb, ℕ, ◌+◌, ◌*◌, ◌<◌, ◌≤◌, length, get_or, replicate};
 ghost use Rattle.model.specs.Lists.{bit};
 ghost use Rattle.model.specs.Polygraph.{rows};
 ghost use Rattle.model.specs.Log.{transactions_in, start_at, load_number, history_of};
 ghost use Rattle.graph.specs.Masks.{put_if};
-ghost use Rattle.log.specs.Reading.{InLog};
+ghost use Rattle.logs.specs.Reading.{InLog};
 ghost use Rattle.polygraph.specs.Tables.{writers_of, packed_as, read_marks_of, slot_by, slot_in, SlotsOf, mark_step, Unmarked, DecodedOne, Decoded};
 ghost use Rattle.polygraph.specs.Edges.{next_by, successors_by, cabinet_rows, own_edge, read_step};
 
@@ -78,11 +80,11 @@ fn decode_transaction(
     requires { InLog log.now t × (t < 32) × (from ≤ start_at log.now t) × (length reads.old ≡ 256) × Unmarked t writers.old }
     ensures { DecodedOne log.now t from writers.old reads.old writers.new reads.new result }
 {
-    let n = log::count(log, t);
+    let n = logs::count(log, t);
     let mut count = from;
     let mut m: usize = 0;
     while m < n {
-        let o = log::operation(log, t, m);
+        let o = logs::operation(log, t, m);
         let key = o.key;
         let mark = mark_of(t, o.kind);
         let w = writers[key] | mark;
@@ -99,7 +101,7 @@ pub fn decode(log: &[u8], writers: &mut [u32; 32], reads: &mut [u32; 256]) -> us
     requires { (load_number log.now ≡ 0) × (writers.old ≡ replicate 32 0) × (length reads.old ≡ 256) }
     ensures { Decoded log.now writers.new reads.new result }
 {
-    let n = log::transactions(log);
+    let n = logs::transactions(log);
     let mut count: usize = 0;
     let mut t: usize = 0;
     while t < n {
@@ -202,7 +204,7 @@ fn add_cabinets(log: &[u8], n: usize, out: &mut [u32; 32])
     let mut last = [32usize; 16];
     let mut t: usize = 0;
     while t < n {
-        let c = log::cabinet(log, t);
+        let c = logs::cabinet(log, t);
         let before = last[c];
         let edge = put_if(0, t as u32, before < 32);
         out[before % 32] = out[before % 32] | edge;

@@ -1,5 +1,7 @@
 // Pruning over the list of constraints that the caller lends: scanned and compacted in place, in passes until one drops none.
 // The known edges travel by value, and beside them their closed rows, kept closed as edges are added.
+#![tactic(auto)]
+
 ghost use Rattle.std.specs.Prelude.{◌≡◌, List, ◌++◌, ℕ, ◌-◌, ◌<◌, ◌≤◌, length, take, drop, replicate};
 ghost use Rattle.model.specs.Polygraph.{reach};
 ghost use Rattle.model.specs.Lent.{no_constraint};
@@ -10,7 +12,7 @@ use model::Constraint;
 pub mod numbers;
 
 // What a pass does with a constraint: whether it drops it, and then the edges from each source in `from` to `to` are added.
-#[derive(Drop)]
+#[derive(Clone, Copy)]
 struct Resolution {
     pub drops: bool,
     pub from: u32,
@@ -19,7 +21,7 @@ struct Resolution {
 
 // Where a pass stands: at the constraint `at` of those below `end`, with `kept` at the front. No pass is `on` once one has dropped none.
 // This and `Hit` are public for what `answers` says of their counts.
-#[derive(Drop)]
+#[derive(Clone, Copy)]
 pub struct Place {
     pub at: u16,
     pub kept: u16,
@@ -28,7 +30,7 @@ pub struct Place {
 }
 
 // The next constraint that is dropped, with the side that is added, or the end of the pass, with no edges to add.
-#[derive(Drop)]
+#[derive(Clone, Copy)]
 pub struct Hit {
     pub at: u16,
     pub kept: u16,
@@ -37,7 +39,7 @@ pub struct Hit {
 }
 
 // The known edges as pruning leaves them, and the count of constraints left.
-#[derive(Drop)]
+#[derive(Clone, Copy)]
 pub struct Pruned {
     pub rows: [u32; 32],
     pub left: u16,

@@ -2,7 +2,7 @@
 use Prim.Native.Nat.{ℕ, suc, ◌+◌, ◌<◌}
 use native.Mathlib.Omega.{arith}
 use native.Mathlib.Numerals.{add-one}
-use mathlib.Core.Path.{◌≡◌, refl, sym, ap₂, subst}
+use mathlib.Core.Path.{◌≡◌, refl, sym, ap₂, subst, ◌∙◌}
 use mathlib.Core.Logic.{⊎_elim, ◌≢◌}
 use mathlib.Core.Bool.{Bool, true, false, not, ◌&&◌}
 use mathlib.Core.List.{List, [], ◌∷◌}
@@ -27,13 +27,11 @@ module _ (p : ℕ → Bool) where
   all_end i n e a = sym (true_eq (all p (up_to n)) (subst (λ k. T (all p (up_to k))) e a))
 
 -- what the answer of a test says, where the code stops on no
-pub held : (a b : Bool) → a ≡ b → not a ≡ false → T b
-held true b e f = subst T e tt
-held false b e f = absurd (subst T f tt)
+pub held : (a b : Bool) → a ≡ b → a ≡ true → T b
+held a b e f = subst T (sym f ∙ e) tt
 
-pub failed : (a b : Bool) → a ≡ b → not a ≡ true → T (not b)
-failed true b e f = absurd (subst T (sym f) tt)
-failed false b e f = subst (λ x. T (not x)) e tt
+pub failed : (a b : Bool) → a ≡ b → a ≡ false → T (not b)
+failed a b e f = subst (λ x. T (not x)) (sym f ∙ e) tt
 
 -- two tests that agree
 module _ {A : Type 0} (p q : A → Bool) where

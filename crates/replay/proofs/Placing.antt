@@ -18,7 +18,7 @@ use Rattle.model.proofs.Basics.{same?, true_eq, false_eq, not_intro, all_up_to_i
 use Rattle.model.proofs.Places.{Once, once_tail, Order, order_out, order_once, order_place, order_length, count_here, count_there, place_here, place_there}
 use Rattle.model.proofs.Loaded.{loaded, history_size}
 use Rattle.model.proofs.Times.{ended_is, ended_past, timed_times}
-use Rattle.log.specs.Reading.{InLog}
+use Rattle.logs.specs.Reading.{InLog}
 use Rattle.replay.specs.Orders.{Ordered, Places}
 use Rattle.replay.specs.Steps.{kept_by, stands_after, clock_kept}
 use Rattle.replay.proofs.Alls.{all_up_to_same}

@@ -20,7 +20,7 @@ use Rattle.model.proofs.Masks.{bit_or_lem, bit_one}
 use Rattle.model.proofs.Loops.{map_snoc, keep_snoc, fold_snoc, before_take}
 use Rattle.model.proofs.Places.{Order, order_once, order_place, order_length}
 use Rattle.graph.specs.Masks.{put_if}
-use Rattle.log.specs.Reading.{as_operation}
+use Rattle.logs.specs.Reading.{as_operation}
 use Rattle.rules.specs.declared.Body.{Body}
 use Rattle.replay.specs.Steps.{agrees_by, reads_agree, put_by, stored_by}
 use Rattle.replay.proofs.Alls.{all_same}

@@ -3,7 +3,7 @@ ghost use Rattle.std.specs.Prelude.{◌≡◌, ℕ, ◌<◌};
 ghost use Rattle.model.specs.Lists.{all, up_to};
 ghost use Rattle.model.specs.History.{sent_before};
 ghost use Rattle.model.specs.Log.{transactions_in, load_number, history_of};
-ghost use Rattle.log.specs.Reading.{InLog};
+ghost use Rattle.logs.specs.Reading.{InLog};
 ghost use Rattle.replay.specs.Steps.{kept_by};
 
 // Whether one cabinet sent u before v.
@@ -14,7 +14,7 @@ fn sent_before(log: &[u8], u: usize, v: usize) -> bool
     if u >= v {
         return false;
     }
-    log::cabinet(log, u) == log::cabinet(log, v)
+    logs::cabinet(log, u) == logs::cabinet(log, v)
 }
 
 // Whether u stands before v, where it was sent before it.
@@ -48,7 +48,7 @@ pub(crate) fn keeps(log: &[u8], places: [u8; 32]) -> bool
     requires { load_number log.now ≡ 0 }
     ensures { result ≡ all (λ (u : ℕ). all (kept_by log.now places u) (up_to (transactions_in log.now))) (up_to (transactions_in log.now)) }
 {
-    let n = log::transactions(log);
+    let n = logs::transactions(log);
     let mut u: usize = 0;
     while u < n {
         if !keeps_from(log, places, n, u) {

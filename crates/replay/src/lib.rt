@@ -1,6 +1,8 @@
 // A given order held against a log that Load takes with its times: whether it is legal, and the table that it leaves.
 // `orders` tests a list as an order and finds its places, `cabinets` asks for each cabinet's own order, `clock` for that of the office clock, `tables` runs the
 // transactions.
+#![tactic(auto)]
+
 ghost use Rattle.std.specs.Prelude.{◌≡◌, T};
 ghost use Rattle.model.specs.History.{is_order, legal};
 ghost use Rattle.model.specs.Log.{transactions_in};

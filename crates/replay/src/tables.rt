@@ -2,11 +2,11 @@
 ghost use Rattle.std.specs.Prelude.{◌≡◌, cond, ◌<◌, T};
 ghost use Rattle.model.specs.History.{is_order, is_write, every_read_explained, replay};
 ghost use Rattle.model.specs.Log.{transactions_in, load_number, history_of};
-ghost use Rattle.log.specs.Reading.{InLog, as_operation};
+ghost use Rattle.logs.specs.Reading.{InLog, as_operation};
 ghost use Rattle.replay.specs.Steps.{agrees_by, reads_agree, stored_by};
 
 use graph::mask::{has, put_if};
-use log::Body;
+use logs::Body;
 
 // Whether a read names the last writer of its key.
 fn agrees(last: [u16; 32], o: Body) -> bool
@@ -26,11 +26,11 @@ fn reads_agree(log: &[u8], last: [u16; 32], t: usize) -> bool
     requires { InLog log.now t }
     ensures { result ≡ reads_agree (history_of log.now) last t }
 {
-    let count = log::count(log, t);
+    let count = logs::count(log, t);
     let mut written: u32 = 0;
     let mut m: usize = 0;
     while m < count {
-        let o = log::operation(log, t, m);
+        let o = logs::operation(log, t, m);
         let key = o.key as u32;
         written = put_if(written, key, o.kind == 1);
         if !(has(written, key) | agrees(last, o)) {
@@ -61,10 +61,10 @@ fn store(log: &[u8], marks: bool, t: usize, out: &mut [u16; 32])
     requires { InLog log.now t }
     ensures { out.new ≡ stored_by marks (history_of log.now) out.old t }
 {
-    let count = log::count(log, t);
+    let count = logs::count(log, t);
     let mut m: usize = 0;
     while m < count {
-        let o = log::operation(log, t, m);
+        let o = logs::operation(log, t, m);
         let key = o.key;
         out[key] = kept(o, left_by(marks, t, o.argument), out[key]);
         m += 1;

@@ -1,5 +1,7 @@
 // The text that Judge prints, put together in a buffer. Each function adds something behind the first `at` bytes, leaves all
 // other bytes as they were, and gives the new length of the text.
+#![tactic(auto)]
+
 ghost use Rattle.std.specs.Prelude.{◌≡◌, [], ◌∷◌, not, eqb, ◌+◌, ◌*◌, ◌<◌, ◌≤◌, length, take};
 ghost use Rattle.model.specs.Lists.{each};
 ghost use Rattle.report.specs.Text.{digits, number_text, step_text, order_text, key_text, line_if, table_text, marked, found_text, refused_text, no_order_text, Wrote};

@@ -1,12 +1,14 @@
 // Load's rules for one body, over numbers and masks: 7, 8, 9, 10 or 34, 11. The keys that a transaction has read, written and read back so far are three masks.
 // The loops over a log's bodies are in `log`.
+#![tactic(auto)]
+
 ghost use Rattle.std.specs.Prelude.{◌≡◌, Bool, cond, ◌<◌};
 ghost use Rattle.rules.specs.Tests.{named, back_by, read_by, write_by, body_by, faults_by, mark_by, mark_back, keep_word};
 
 use graph::{has, with};
 
 // The body of an operation: kind 0 is a read and 1 a write.
-#[derive(Drop)]
+#[derive(Clone, Copy)]
 pub struct Body {
     pub kind: usize,
     pub key: usize,

@@ -1,7 +1,7 @@
 // Bytes of logs with read-backs.
 
 // An operation: 0 the read before the write, 1 the write, 2 the read-back; its key, and its argument.
-#[derive(Drop)]
+#[derive(Clone, Copy)]
 struct Op {
     act: u8,
     key: u8,

@@ -1,5 +1,7 @@
 // What the test programs share: a full log to change bytes of, logs with read-backs at the limits, starting tables, times, calls with their answers as
 // numbers, and lines of output.
+#![tactic(auto)]
+
 use checker::{Answer, Case, Judgement, Stage};
 
 mod backs;
@@ -51,7 +53,7 @@ fn full_byte(i: usize) -> u8 {
 
 // What a list of bytes is: the numbers 0, 1, 2 and on; the full log; the full log with read-backs; the log of one transaction with read-backs, key by key
 // or in three rounds.
-#[derive(Drop)]
+#[derive(Clone, Copy)]
 enum List {
     Ascending,
     Full,

@@ -3,6 +3,8 @@
 // Row words are kept closed, with no cycle. They travel by value from choice to choice; pruning changes them in place, since of 128 bytes that are
 // returned at each call the copies are a good part of the work. The constraints are one lent slice of words, four a constraint, that is only read.
 // Those that are open are bits of 128 words.
+#![tactic(auto)]
+
 ghost use Rattle.std.specs.Prelude.{◌≡◌, true, false, not, ◌&&◌, ℕ, ◌+◌, ◌*◌, ◌-◌, ◌<◌, ◌≤◌, T, ltb, length};
 ghost use Rattle.model.specs.Lists.{bit};
 ghost use Rattle.model.specs.Polygraph.{reach, closed_off};
@@ -17,14 +19,14 @@ pub mod order;
 use graph::mask::clear_low;
 
 // Whether there is a selection without a cycle, and the closed row words of one.
-#[derive(Drop)]
+#[derive(Clone, Copy)]
 pub struct Selection {
     pub rows: [u32; 32],
     pub found: bool,
 }
 
 // A side: an edge from each source to the target.
-#[derive(Drop)]
+#[derive(Clone, Copy)]
 pub struct Side {
     pub from: u32,
     pub to: u32,

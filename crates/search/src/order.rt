@@ -11,7 +11,7 @@ ghost use Rattle.search.specs.Orders.{Under, led_row, Placed, Progress, Below, P
 use model::Constraint;
 
 // The number that comes next, the row words with it before all unplaced, and those of a selection.
-#[derive(Drop)]
+#[derive(Clone, Copy)]
 pub struct Choice {
     pub rows: [u32; 32],
     pub sel: [u32; 32],
@@ -19,7 +19,7 @@ pub struct Choice {
 }
 
 // Whether there is an order, and the first, with zeros behind it.
-#[derive(Drop)]
+#[derive(Clone, Copy)]
 pub struct Found {
     pub found: bool,
     pub order: [u8; 32],

@@ -1,6 +1,8 @@
 // Random histories for test programs, and a direct reading of document 01 and cards 1 and 7 over them. Nothing here is shared with the code under test: a
 // sample is a table of its own, its log is written from that table (module `log`), its times stand beside it (module `times`), and the first legal order is
 // found by going through all permutations (module `orders`). The contracts say nothing; the functions are proved safe and ending.
+#![tactic(auto)]
+
 use times::Times;
 
 pub mod log;
@@ -10,7 +12,7 @@ pub mod times;
 // A history of `size` transactions, at most 32, over up to 4 keys. Place 4 * t + k of `code` says what transaction t does with key k: 0 nothing, 1 it reads,
 // 2 it writes, 3 it reads and then writes, 4 it writes and reads back, 5 it reads, writes and reads back; the same place of `names` is what the read before
 // the write, or of a key not written, names. A read-back names its own transaction. The first `size` times count.
-#[derive(Drop)]
+#[derive(Clone, Copy)]
 pub struct Sample {
     pub size: u8,
     pub cabinet: [u8; 32],

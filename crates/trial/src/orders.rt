@@ -3,14 +3,14 @@ use crate::Sample;
 use crate::times::Times;
 
 // An order, and whether there is one.
-#[derive(Drop)]
+#[derive(Clone, Copy)]
 pub struct Step {
     pub found: bool,
     pub order: [u8; 32],
 }
 
 // A sample's operations, what each key was last written by, and whether all reads so far were explained.
-#[derive(Drop)]
+#[derive(Clone, Copy)]
 struct Replay {
     code: [u8; 128],
     names: [u16; 128],

@@ -3,7 +3,7 @@ use crate::orders::{exchanged, shuffled};
 use crate::{at, below, next};
 
 // A begin and an end for each transaction, and the drift. Where `timed` is false there are none, and the drift alone stands.
-#[derive(Drop)]
+#[derive(Clone, Copy)]
 pub struct Times {
     pub timed: bool,
     pub begin: [u32; 32],

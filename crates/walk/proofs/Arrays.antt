@@ -10,22 +10,22 @@ use Prim.Native.Nat.{ℕ, zero, suc}
 use mathlib.Core.List.{List, [], ◌∷◌, map}
 use lib.ListN.{length, replicate, length-replicate}
 use seplogic.Ra.Ura.{Ura}
-use seplogic.Ra.TreeShare.{full_share}
+use base.Fraction.{full_share}
 use mir.Syntax.{Width, ty_array, int_big}
 use mir.Val.{Val, vint, Fits}
 use base.Logic.{via, guard_i}
-use base.Fml.{Share, Fml, fsep, fat, froom}
+use base.Fml.{fsep, fat, froom}
 use prog.Wp.{Env}
 use types.Logic.{Logic}
 use types.Kit.{Goal, Item, ‵, Step, step, ◌$◌, move, drop, use1, rewrite, fsplit, fjoin, fpick, fpack, feq_i}
 use types.Run.{Opd}
 use types.Share.{arr_parts}
-use denote.RattleType.{RattleType}
 use denote.Shadow.{shadow}
 use denote.Laws.{Is, shows}
 use denote.Memory.{cell_at, lone, part_at, shares, part_of}
 use denote.Array.{each, array_val, Array, Array-Tells, Array-Lawful, Array-Makes, array_copy}
 use denote.ArrayMemory.{Single, Array-apart, Array-whole}
+use denote.Copied.{Array-Copied}
 use denote.Index.{row}
 use denote.Steps.{peeks}
 use Rattle.walk.proofs.Kind.{Kind, vals, Good, have}
@@ -38,6 +38,8 @@ of_array k n = record {
   lawful = λ 𝓛. Array-Lawful 𝓛 k.row (k.lawful 𝓛) n;
   makes = λ 𝓛. Array-Makes 𝓛 k.row (k.makes 𝓛) n;
   copy = λ 𝓛. array_copy 𝓛 k.row (k.copy 𝓛) n;
+  one = tt;
+  copied = λ 𝓛. Array-Copied 𝓛 k.row (k.copied 𝓛) k.one n;
 }
 
 each_repeated : (k : Kind) (x : k.row.Denot) → Good k x → (n : ℕ) → shadow (each k.row.Denot k.row.own_val (replicate n x) (map k.val (replicate n x)))

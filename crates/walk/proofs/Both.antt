@@ -8,15 +8,15 @@ use Prim.Native.Nat.{ℕ}
 use mathlib.Core.List.{List, [], ◌∷◌}
 use lib.ListN.{length}
 use seplogic.Ra.Ura.{Ura}
-use seplogic.Ra.TreeShare.{full_share}
-use mir.Syntax.{Name, Lifetime, Place, Opd as Operand, Body, seq, call}
+use base.Fraction.{full_share}
+use mir.Syntax.{Callee, Lifetime, Place, Opd as Operand, Body, seq, call}
 use mir.Val.{Val}
-use base.Logic.{SProp, ent, sep, ex, guard, via, id⊢}
+use base.Logic.{SProp, ent, sep, ex, guard, id⊢}
 use base.Fml.{Lft, GName, Share, Fml, ftrue, flft}
 use prog.Wp.{Env, Calls, Loops}
 use types.Logic.{Logic, sem}
 use sound.WpLaws.{FmC}
-use types.Kit.{Item, ‵, raw, ◌⊛◌, some, later, given, Post, runs, lands, Seq, ◌$◌, ◌∵◌, !, qed, move, drop, use1, use2, use3, split, join, pick, learn, check, show, frame, await, updating, now as at_once, done}
+use types.Kit.{Item, ‵, raw, ◌⊛◌, some, later, given, Post, runs, lands, Seq, ◌$◌, ◌∵◌, !, qed, move, drop, use1, use2, use3, split, join, pick, learn, check, show, await, updating, now as at_once, done}
 use types.Run.{Opds}
 use types.Tokens.{lft_new, lft_end}
 use denote.RattleType.{RattleType}
@@ -36,9 +36,9 @@ module _ {M : Type 1} {𝓤 : Ura M} (𝓛 : Logic 𝓤) where
 
   module _ where
     pub result_both : (R S : RattleType) (m : ℕ) (κ : Lft) (q : Share) (ν : ℕ) (δ : GName) (E : S.Denot → SProp 𝓤) (Φ : S.Denot → List R.Denot → Type 0) → ((x : S.Denot) → ent 𝓤 (E x) (Last 𝓛 R m (Φ x) δ)) → (v : Val)
-        → ent 𝓤 (H.⇛ (ex 𝓤 (λ (x : S.Denot). sep 𝓤 (sep 𝓤 (sep 𝓤 (A.lft κ q) (sep 𝓤 (A.lft (ν ∷ []) full_share) (sem 𝓛 ftrue))) (sem 𝓛 (S.own x (v ∷ [])))) (E x)))) (LeftBoth R m (Answer S Φ) κ q ν δ v)
+        → ent 𝓤 (H.⇛ (ex 𝓤 (λ (x : S.Denot). sep 𝓤 (sep 𝓤 (sep 𝓤 (A.lft κ q) (sep 𝓤 (A.lft (ν ∷ []) full_share) (sem 𝓛 ftrue))) (sem 𝓛 (S.own_val x (v ∷ [])))) (E x)))) (LeftBoth R m (Answer S Φ) κ q ν δ v)
     result_both R S m κ q ν δ E Φ h v =
-        qed 𝓛 (later (some (λ (x : S.Denot). ((‵ (flft κ q) ⊛ (‵ (flft (ν ∷ []) full_share) ⊛ ‵ ftrue)) ⊛ ‵ (S.own x (v ∷ []))) ⊛ raw (E x))) ∷ []) ∵ updating ! $ await ! tt $ pick ! (λ x. split ! $ move ! (1 ∷ []) $
+        qed 𝓛 (later (some (λ (x : S.Denot). ((‵ (flft κ q) ⊛ (‵ (flft (ν ∷ []) full_share) ⊛ ‵ ftrue)) ⊛ ‵ (S.own_val x (v ∷ []))) ⊛ raw (E x))) ∷ []) ∵ updating ! $ await ! tt $ pick ! (λ x. split ! $ move ! (1 ∷ []) $
         use1 𝓛 (some (λ (zs : List R.Denot). given (Φ x zs × (length zs ≡ m)) (‵ (finally R δ zs)))) (h x) $ pick ! (λ zs. learn ! (λ p. move ! (1 ∷ []) $ split ! $ move ! (1 ∷ []) $
         facts ! S (Is S) (shows 𝓛 S) x (v ∷ []) (λ is. split ! $ move ! (1 ∷ []) $ split ! $ move ! (1 ∷ []) $ drop ! $
         at_once ! $ show ! (λ (us : List R.Denot). guard 𝓤 (Answer S Φ v us × (length us ≡ m)) (sep 𝓤 (A.lft (ν ∷ []) full_share) (sep 𝓤 (A.lft κ q) (sem 𝓛 (finally R δ us))))) zs $ check ! ((x, (p.0, is)), p.1) $ done !))))
@@ -46,7 +46,7 @@ module _ {M : Type 1} {𝓤 : Ura M} (𝓛 : Logic 𝓤) where
 module _ {M : Type 1} {𝓤 : Ura M} {𝓛 : Logic 𝓤} {K : Type 0} {Γ : List (Item 𝓤)} {E : Env 𝓤 𝓛.H} {C : Calls 𝓤 𝓛.H} {Λ : Loops 𝓤 𝓛.H} {q : Post 𝓤 𝓛.H} where
   open 𝓛 use {H, A}
 
-  pub calls_both : K → FmC 𝓤 H 𝓛.laws C → {f : Name} {xs : List Operand} {d : Place} {rest : Body} {vs : List Val} (R : RattleType) (ℓ ℓ' : Lifetime) (κ : Lft) (s : Share) (γ : GName) (b o m : ℕ) (ys : List R.Denot) → length ys ≡ m → Room R m
+  pub calls_both : K → FmC 𝓤 H 𝓛.laws C → {f : Callee} {xs : List Operand} {d : Place} {rest : Body} {vs : List Val} (R : RattleType) (ℓ ℓ' : Lifetime) (κ : Lft) (s : Share) (γ : GName) (b o m : ℕ) (ys : List R.Denot) → length ys ≡ m → Room R m
       → (Own : Fml) → ent 𝓤 (sem 𝓛 Own) (sep 𝓤 (sem 𝓛 Own) (sem 𝓛 Own)) → (κ₀ : Lft) (s₀ : Share) (φ : Val → List R.Denot → Type 0)
       → ((ν : ℕ) (δ : GName) → ent 𝓤 (sep 𝓤 (sep 𝓤 (A.lft (ν ∷ []) full_share) (sem 𝓛 ((MutSlice ℓ' (ν ∷ []) R).own_val (lent b o δ ys) (counted b o m ∷ [])))) (sep 𝓤 (sem 𝓛 Own) (A.lft κ₀ s₀))) (C f vs (LeftBoth 𝓛 R m φ κ₀ s₀ ν δ)))
       → ((i j x y : Item 𝓤) → Opds K 𝓛 (i ∷ j ∷ x ∷ y ∷ Γ) E xs vs)

@@ -1,5 +1,5 @@
 -- A type of plain data, with all that a walk asks of it: one record for an array, a struct or a number. It says nothing of the crate, and can be copied as it stands.
---     Kind             its row (`Denote/RattleType.antt`), its machine value, and the laws
+--     Kind             its row (`Denote/RattleType.antt`), its machine value, and the laws.        one, copied     its row has one MIR type (`Denote/ArrayMemory.antt`), and what a `&` to it takes of a type that is Copy (`Denote/Copied.antt`)
 --     of_field         of a built-in type or an array (`Denote/Struct/Field.antt`).        of_declared      of a struct, by its generated modules
 --     Good k x         what the row says of x at its machine value: that its numbers are in their ranges, and an array's length
 --     val_is, good     of a value that a call returned at the machine value v: v is its machine value, and it is good
@@ -7,7 +7,7 @@
 --     usize_k, u32_k, u16_k, u8_k, bool_k, bytes_k n, words_k n     a number of each width, a bool, and an array of n bytes or of n words of 32 bits.        words_long, words_small      how many, and that each has 32 bits
 --     wide             16 bits are widened to 64
 -- Assumes nothing, but `have`, which assumes `Logic`.
-use mathlib.Core.Path.{◌≡◌, refl, ap, subst}
+use mathlib.Core.Path.{◌≡◌, sym, ap, subst}
 use Prim.Native.Nat.{ℕ, zero, suc, ◌<◌, ◌^◌}
 use native.Mathlib.Omega.{arith}
 use lib.Dec.{lit<}
@@ -22,6 +22,8 @@ use types.Kit.{Goal, Item, ‵, Step}
 use denote.RattleType.{RattleType}
 use denote.Shadow.{makes_shadow, shadow}
 use denote.Laws.{Is, Typed, Tells, Makes, Lawful, Copy}
+use denote.ArrayMemory.{Single}
+use denote.Copied.{Copied}
 use denote.Steps.{only, owned}
 use denote.Struct.Struct.{Plains}
 use denote.Struct.Field.{Field, bool-field, u8-field, u16-field, u32-field, usize-field, array_field}
@@ -35,6 +37,8 @@ pub record Kind : Type 2 where
   pub lawful : {M : Type 1} {𝓤 : Ura M} (𝓛 : Logic 𝓤) → Lawful 𝓛 row
   pub makes : {M : Type 1} {𝓤 : Ura M} (𝓛 : Logic 𝓤) → Makes 𝓛 row (Is row)
   pub copy : {M : Type 1} {𝓤 : Ura M} (𝓛 : Logic 𝓤) → Copy 𝓛 row
+  pub one : Single row.mir
+  pub copied : {M : Type 1} {𝓤 : Ura M} (𝓛 : Logic 𝓤) → Copied 𝓛 row
 
 abbrev pub of_field : (F : Field) → LL.FLaws F → LL.Plain F → LL.Copyable F → Kind
 of_field F L P c = record {
@@ -44,6 +48,8 @@ of_field F L P c = record {
   lawful = λ 𝓛. L.lawful 𝓛;
   makes = λ 𝓛 x vs p. makes_shadow 𝓛 (F.row.own_val x vs) (P x vs) p;
   copy = λ {M} {𝓤 = 𝓤} 𝓛. c.copies M 𝓤 𝓛;
+  one = subst Single (sym c.alone) tt;
+  copied = λ {M} {𝓤 = 𝓤} 𝓛. c.copied M 𝓤 𝓛;
 }
 
 -- the machine value is `lowered`, as MIR writes it: at a struct with an array it computes to what a load of the array gives, where `LL.val` has a `map (λ v. v)` in it
@@ -55,6 +61,8 @@ of_declared T L lw P c = record {
   lawful = λ 𝓛. LL.lawful T L 𝓛;
   makes = λ 𝓛. LL.makes T P 𝓛;
   copy = λ 𝓛. LL.copy T c 𝓛;
+  one = tt;
+  copied = λ 𝓛. LL.copied T c 𝓛;
 }
 
 abbrev pub u8_k : Kind

@@ -10,16 +10,16 @@ use Prim.Native.Nat.{ℕ}
 use mathlib.Core.List.{List, [], ◌∷◌}
 use lib.ListN.{length}
 use seplogic.Ra.Ura.{Ura}
-use seplogic.Ra.TreeShare.{full_share}
-use mir.Syntax.{Name, Lifetime, named, Place, Opd as Operand, Body, seq, call}
+use base.Fraction.{full_share}
+use mir.Syntax.{Callee, Lifetime, Place, Opd as Operand, Body, seq, call}
 use mir.Val.{Val}
 use base.Logic.{SProp, ent, sep, ex, guard, via, id⊢}
 use base.Fml.{Lft, GName, Share, ftrue, flft, flent}
 use prog.Wp.{Env, Calls, Loops}
 use types.Logic.{Logic, sem}
 use sound.WpLaws.{FmC}
-use contract.Monad.{Fun, fact, fm→mono}
-use types.Kit.{Item, ‵, raw, ◌⊛◌, some, later, given, ⋆, Post, runs, lands, Seq, ◌$◌, ◌∵◌, !, qed, move, drop, use1, use2, use3, split, join, pick, learn, check, show, frame, fsplit, await, updating, now as at_once, done}
+use contract.Monad.{Fun, fm→mono}
+use types.Kit.{Item, ‵, raw, ◌⊛◌, some, later, given, Post, runs, lands, Seq, ◌$◌, ◌∵◌, !, qed, move, drop, use1, use2, use3, split, join, pick, learn, check, show, fsplit, await, updating, now as at_once, done}
 use types.Run.{Opds}
 use types.Tokens.{lft_new, lft_end}
 use types.SemTy.{cells, Arr}
@@ -29,7 +29,7 @@ use denote.Memory.{mem}
 use denote.Slice.{MutSlice, Room, finally}
 use denote.Lend.{Held, lends_slice, slice_back}
 use denote.Index.{row, whole_out, whole_in}
-use denote.Steps.{heard, facts}
+use denote.Steps.{facts}
 use denote.Triple.Statement.{Contract, Triple, FmF}
 use denote.Triple.Call.{calls_from}
 use Rattle.walk.proofs.Slices.{lent, counted, LentAgain, lends_again, comes_back}
@@ -53,9 +53,9 @@ module _ {M : Type 1} {𝓤 : Ura M} (𝓛 : Logic 𝓤) where
 
   module _ where
     pub result_left : (R S : RattleType) (m : ℕ) (ν : ℕ) (δ : GName) (E : S.Denot → SProp 𝓤) (Φ : S.Denot → List R.Denot → Type 0) → ((x : S.Denot) → ent 𝓤 (E x) (Last R m (Φ x) δ)) → (v : Val)
-        → ent 𝓤 (H.⇛ (ex 𝓤 (λ (x : S.Denot). sep 𝓤 (sep 𝓤 (sep 𝓤 (A.lft (ν ∷ []) full_share) (sem 𝓛 ftrue)) (sem 𝓛 (S.own x (v ∷ [])))) (E x)))) (Left R m (Answer S Φ) ν δ v)
+        → ent 𝓤 (H.⇛ (ex 𝓤 (λ (x : S.Denot). sep 𝓤 (sep 𝓤 (sep 𝓤 (A.lft (ν ∷ []) full_share) (sem 𝓛 ftrue)) (sem 𝓛 (S.own_val x (v ∷ [])))) (E x)))) (Left R m (Answer S Φ) ν δ v)
     result_left R S m ν δ E Φ h v =
-        qed 𝓛 (later (some (λ (x : S.Denot). ((‵ (flft (ν ∷ []) full_share) ⊛ ‵ ftrue) ⊛ ‵ (S.own x (v ∷ []))) ⊛ raw (E x))) ∷ []) ∵ updating ! $ await ! tt $ pick ! (λ x. split ! $ move ! (1 ∷ []) $
+        qed 𝓛 (later (some (λ (x : S.Denot). ((‵ (flft (ν ∷ []) full_share) ⊛ ‵ ftrue) ⊛ ‵ (S.own_val x (v ∷ []))) ⊛ raw (E x))) ∷ []) ∵ updating ! $ await ! tt $ pick ! (λ x. split ! $ move ! (1 ∷ []) $
         use1 𝓛 (some (λ (zs : List R.Denot). given (Φ x zs × (length zs ≡ m)) (‵ (finally R δ zs)))) (h x) $ pick ! (λ zs. learn ! (λ p. move ! (1 ∷ []) $ split ! $ move ! (1 ∷ []) $
         facts ! S (Is S) (shows 𝓛 S) x (v ∷ []) (λ is. split ! $ move ! (1 ∷ []) $ drop ! $
         at_once ! $ show ! (λ (us : List R.Denot). guard 𝓤 (Answer S Φ v us × (length us ≡ m)) (sep 𝓤 (A.lft (ν ∷ []) full_share) (sem 𝓛 (finally R δ us)))) zs $ check ! ((x, (p.0, is)), p.1) $ done !))))
@@ -63,7 +63,7 @@ module _ {M : Type 1} {𝓤 : Ura M} (𝓛 : Logic 𝓤) where
 module _ {M : Type 1} {𝓤 : Ura M} {𝓛 : Logic 𝓤} {K : Type 0} {Γ : List (Item 𝓤)} {E : Env 𝓤 𝓛.H} {C : Calls 𝓤 𝓛.H} {Λ : Loops 𝓤 𝓛.H} {q : Post 𝓤 𝓛.H} where
   open 𝓛 use {H, A}
 
-  pub calls_lending : K → FmC 𝓤 H 𝓛.laws C → {f : Name} {xs : List Operand} {d : Place} {rest : Body} {vs : List Val} (R : RattleType) (ℓ ℓ' : Lifetime) (κ : Lft) (s : Share) (γ : GName) (b o m : ℕ) (ys : List R.Denot) → length ys ≡ m → Room R m
+  pub calls_lending : K → FmC 𝓤 H 𝓛.laws C → {f : Callee} {xs : List Operand} {d : Place} {rest : Body} {vs : List Val} (R : RattleType) (ℓ ℓ' : Lifetime) (κ : Lft) (s : Share) (γ : GName) (b o m : ℕ) (ys : List R.Denot) → length ys ≡ m → Room R m
       → (φ : Val → List R.Denot → Type 0)
       → ((ν : ℕ) (δ : GName) → ent 𝓤 (sep 𝓤 (A.lft (ν ∷ []) full_share) (sem 𝓛 ((MutSlice ℓ' (ν ∷ []) R).own_val (lent b o δ ys) (counted b o m ∷ [])))) (C f vs (Left 𝓛 R m φ ν δ)))
       → ((i j : Item 𝓤) → Opds K 𝓛 (i ∷ j ∷ Γ) E xs vs)
@@ -80,7 +80,7 @@ module _ {M : Type 1} {𝓤 : Ura M} {𝓛 : Logic 𝓤} {K : Type 0} {Γ : List
       k v zs p.0 p.1)))))
 
   -- the same of a row of the function's own, as an array's (`Arrays.antt`): [the row; Γ] to the same at zs. The operands are read where two items stand before Γ, one more than in the context
-  pub calls_lending_row : K → FmC 𝓤 H 𝓛.laws C → {f : Name} {xs : List Operand} {d : Place} {rest : Body} {vs : List Val} (R : RattleType) (ℓ : Lifetime) (b o : ℕ) (ys : List R.Denot) → Room R (length ys)
+  pub calls_lending_row : K → FmC 𝓤 H 𝓛.laws C → {f : Callee} {xs : List Operand} {d : Place} {rest : Body} {vs : List Val} (R : RattleType) (ℓ : Lifetime) (b o : ℕ) (ys : List R.Denot) → Room R (length ys)
       → (φ : Val → List R.Denot → Type 0)
       → ((ν : ℕ) (δ : GName) → ent 𝓤 (sep 𝓤 (A.lft (ν ∷ []) full_share) (sem 𝓛 ((MutSlice ℓ (ν ∷ []) R).own_val (lent b o δ ys) (counted b o (length ys) ∷ [])))) (C f vs (Left 𝓛 R (length ys) φ ν δ)))
       → ((i j : Item 𝓤) → Opds K 𝓛 (i ∷ j ∷ Γ) E xs vs)

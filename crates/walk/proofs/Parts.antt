@@ -8,8 +8,8 @@ use Prim.Native.Nat.{ℕ}
 use mathlib.Core.List.{List, [], ◌∷◌, ◌++◌}
 use lib.ListN.{length}
 use seplogic.Ra.Ura.{Ura}
-use seplogic.Ra.TreeShare.{full_share}
-use mir.Syntax.{Name, Lifetime, Place, Opd as Operand, Body, seq, call}
+use base.Fraction.{full_share}
+use mir.Syntax.{Callee, Lifetime, Place, Opd as Operand, Body, seq, call}
 use mir.Val.{Val}
 use base.Logic.{SProp, ent, sep, ex, guard, id⊢}
 use base.Fml.{Lft, GName, Share, ftrue, flft, flent}
@@ -66,9 +66,9 @@ module _ {M : Type 1} {𝓤 : Ura M} (𝓛 : Logic 𝓤) (R R₁ : RattleType) (
 
   module _ where
     pub result_two : (S : RattleType) (ν ν₁ : ℕ) (δ δ₁ : GName) (E : S.Denot → SProp 𝓤) (Φ : S.Denot → List R.Denot → List R₁.Denot → Type 0) → ((x : S.Denot) → ent 𝓤 (E x) (LastTwo (Φ x) δ δ₁)) → (v : Val)
-        → ent 𝓤 (H.⇛ (ex 𝓤 (λ (x : S.Denot). sep 𝓤 (sep 𝓤 (sep 𝓤 (A.lft (ν ∷ []) full_share) (sep 𝓤 (A.lft (ν₁ ∷ []) full_share) (sem 𝓛 ftrue))) (sem 𝓛 (S.own x (v ∷ [])))) (E x)))) (LeftTwo (AnswerTwo S Φ) ν ν₁ δ δ₁ v)
+        → ent 𝓤 (H.⇛ (ex 𝓤 (λ (x : S.Denot). sep 𝓤 (sep 𝓤 (sep 𝓤 (A.lft (ν ∷ []) full_share) (sep 𝓤 (A.lft (ν₁ ∷ []) full_share) (sem 𝓛 ftrue))) (sem 𝓛 (S.own_val x (v ∷ [])))) (E x)))) (LeftTwo (AnswerTwo S Φ) ν ν₁ δ δ₁ v)
     result_two S ν ν₁ δ δ₁ E Φ h v =
-        qed 𝓛 (later (some (λ (x : S.Denot). ((‵ (flft (ν ∷ []) full_share) ⊛ (‵ (flft (ν₁ ∷ []) full_share) ⊛ ‵ ftrue)) ⊛ ‵ (S.own x (v ∷ []))) ⊛ raw (E x))) ∷ []) ∵ updating ! $ await ! tt $ pick ! (λ x. split ! $ move ! (1 ∷ []) $
+        qed 𝓛 (later (some (λ (x : S.Denot). ((‵ (flft (ν ∷ []) full_share) ⊛ (‵ (flft (ν₁ ∷ []) full_share) ⊛ ‵ ftrue)) ⊛ ‵ (S.own_val x (v ∷ []))) ⊛ raw (E x))) ∷ []) ∵ updating ! $ await ! tt $ pick ! (λ x. split ! $ move ! (1 ∷ []) $
         use1 𝓛 (some (λ (p : Lists). given (Said (Φ x) p) (‵ (finally R δ p.0) ⊛ ‵ (finally R₁ δ₁ p.1)))) (h x) $ pick ! (λ p. learn ! (λ says. move ! (1 ∷ []) $ split ! $ move ! (1 ∷ []) $
         facts ! S (Is S) (shows 𝓛 S) x (v ∷ []) (λ is. split ! $ move ! (1 ∷ []) $ split ! $ move ! (1 ∷ []) $ drop ! $
         -- [ν₁'s token; ν's; the last lists]
@@ -77,7 +77,7 @@ module _ {M : Type 1} {𝓤 : Ura M} (𝓛 : Logic 𝓤) (R R₁ : RattleType) (
 module _ {M : Type 1} {𝓤 : Ura M} {𝓛 : Logic 𝓤} {K : Type 0} {Γ : List (Item 𝓤)} {E : Env 𝓤 𝓛.H} {C : Calls 𝓤 𝓛.H} {Λ : Loops 𝓤 𝓛.H} {q : Post 𝓤 𝓛.H} where
   open 𝓛 use {H, A}
 
-  pub calls_lending_two : K → FmC 𝓤 H 𝓛.laws C → {f : Name} {xs : List Operand} {d : Place} {rest : Body} {vals : List Val} (R : RattleType) (ℓ : Lifetime) (b o : ℕ) (ys : List R.Denot) → Room R (length ys)
+  pub calls_lending_two : K → FmC 𝓤 H 𝓛.laws C → {f : Callee} {xs : List Operand} {d : Place} {rest : Body} {vals : List Val} (R : RattleType) (ℓ : Lifetime) (b o : ℕ) (ys : List R.Denot) → Room R (length ys)
       → (R₁ : RattleType) (ℓ₁ ℓ₁' : Lifetime) (κ : Lft) (s : Share) (γ : GName) (b₁ o₁ m : ℕ) (ws : List R₁.Denot) → length ws ≡ m → Room R₁ m
       → (φ : Val → List R.Denot → List R₁.Denot → Type 0)
       → ((ν ν₁ : ℕ) (δ δ₁ : GName) → ent 𝓤 (sep 𝓤 (sep 𝓤 (A.lft (ν ∷ []) full_share) (sem 𝓛 ((MutSlice ℓ (ν ∷ []) R).own_val (lent b o δ ys) (counted b o (length ys) ∷ []))))

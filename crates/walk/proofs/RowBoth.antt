@@ -6,8 +6,8 @@ use Prim.Native.Nat.{ℕ}
 use mathlib.Core.List.{List, [], ◌∷◌}
 use lib.ListN.{length}
 use seplogic.Ra.Ura.{Ura}
-use seplogic.Ra.TreeShare.{full_share}
-use mir.Syntax.{Name, Lifetime, Place, Opd as Operand, Body, seq, call}
+use base.Fraction.{full_share}
+use mir.Syntax.{Callee, Lifetime, Place, Opd as Operand, Body, seq, call}
 use mir.Val.{Val}
 use base.Logic.{ent, sep, id⊢}
 use base.Fml.{Lft, GName, Share, Fml, flft, flent}
@@ -30,7 +30,7 @@ use Rattle.walk.proofs.Both.{LeftBoth}
 module _ {M : Type 1} {𝓤 : Ura M} {𝓛 : Logic 𝓤} {K : Type 0} {Γ : List (Item 𝓤)} {E : Env 𝓤 𝓛.H} {C : Calls 𝓤 𝓛.H} {Λ : Loops 𝓤 𝓛.H} {q : Post 𝓤 𝓛.H} where
   open 𝓛 use {H, A}
 
-  pub calls_both_row : K → FmC 𝓤 H 𝓛.laws C → {f : Name} {xs : List Operand} {d : Place} {rest : Body} {vs : List Val} (R : RattleType) (ℓ : Lifetime) (b o : ℕ) (ys : List R.Denot) → Room R (length ys)
+  pub calls_both_row : K → FmC 𝓤 H 𝓛.laws C → {f : Callee} {xs : List Operand} {d : Place} {rest : Body} {vs : List Val} (R : RattleType) (ℓ : Lifetime) (b o : ℕ) (ys : List R.Denot) → Room R (length ys)
       → (Own : Fml) → ent 𝓤 (sem 𝓛 Own) (sep 𝓤 (sem 𝓛 Own) (sem 𝓛 Own)) → (κ₀ : Lft) (s₀ : Share) (φ : Val → List R.Denot → Type 0)
       → ((ν : ℕ) (δ : GName) → ent 𝓤 (sep 𝓤 (sep 𝓤 (A.lft (ν ∷ []) full_share) (sem 𝓛 ((MutSlice ℓ (ν ∷ []) R).own_val (lent b o δ ys) (counted b o (length ys) ∷ [])))) (sep 𝓤 (sem 𝓛 Own) (A.lft κ₀ s₀))) (C f vs (LeftBoth 𝓛 R (length ys) φ κ₀ s₀ ν δ)))
       → ((i j x : Item 𝓤) → Opds K 𝓛 (i ∷ j ∷ x ∷ Γ) E xs vs)

@@ -6,7 +6,7 @@
 -- Assumes `Logic`.
 use mathlib.Core.List.{List, [], ◌∷◌}
 use seplogic.Ra.Ura.{Ura}
-use mir.Syntax.{Name, Place, Opd as Operand, Body, seq, call}
+use mir.Syntax.{Callee, Place, Opd as Operand, Body, seq, call}
 use mir.Val.{Val}
 use base.Logic.{SProp, ent, sep, ex, guard, via, id⊢}
 use base.Fml.{Lft, Share, Fml, ftrue, flft}
@@ -34,15 +34,15 @@ module _ {M : Type 1} {𝓤 : Ura M} (𝓛 : Logic 𝓤) where
 
   module _ where
     pub result_shares : (S : RattleType) (κ : Lft) (q : Share) (E : S.Denot → SProp 𝓤) (Φ : S.Denot → Type 0) → ((x : S.Denot) → ent 𝓤 (E x) (fact 𝓤 (Φ x))) → (v : Val)
-        → ent 𝓤 (H.⇛ (ex 𝓤 (λ (x : S.Denot). sep 𝓤 (sep 𝓤 (sep 𝓤 (A.lft κ q) (sem 𝓛 ftrue)) (sem 𝓛 (S.own x (v ∷ [])))) (E x)))) (Shares (Result S Φ) κ q v)
+        → ent 𝓤 (H.⇛ (ex 𝓤 (λ (x : S.Denot). sep 𝓤 (sep 𝓤 (sep 𝓤 (A.lft κ q) (sem 𝓛 ftrue)) (sem 𝓛 (S.own_val x (v ∷ [])))) (E x)))) (Shares (Result S Φ) κ q v)
     result_shares S κ q E Φ h v =
-        qed 𝓛 (later (some (λ (x : S.Denot). ((‵ (flft κ q) ⊛ ‵ ftrue) ⊛ ‵ (S.own x (v ∷ []))) ⊛ raw (E x))) ∷ []) ∵ updating ! $ await ! tt $ pick ! (λ x. split ! $ move ! (1 ∷ []) $
+        qed 𝓛 (later (some (λ (x : S.Denot). ((‵ (flft κ q) ⊛ ‵ ftrue) ⊛ ‵ (S.own_val x (v ∷ []))) ⊛ raw (E x))) ∷ []) ∵ updating ! $ await ! tt $ pick ! (λ x. split ! $ move ! (1 ∷ []) $
         use1 𝓛 (raw (fact 𝓤 (Φ x))) (h x) $ heard ! (Φ x) (λ p. split ! $ move ! (1 ∷ []) $ facts ! S (Is S) (shows 𝓛 S) x (v ∷ []) (λ is. split ! $ move ! (1 ∷ []) $ drop ! $ at_once ! $ check ! (x, (p, is)) $ done !)))
 
 module _ {M : Type 1} {𝓤 : Ura M} {𝓛 : Logic 𝓤} {K : Type 0} {Γ : List (Item 𝓤)} {E : Env 𝓤 𝓛.H} {C : Calls 𝓤 𝓛.H} {Λ : Loops 𝓤 𝓛.H} {q : Post 𝓤 𝓛.H} where
   open 𝓛 use {H, A}
 
-  pub calls_sharing : K → FmC 𝓤 H 𝓛.laws C → {f : Name} {xs : List Operand} {d : Place} {rest : Body} {vs : List Val} (Own : Fml) → ent 𝓤 (sem 𝓛 Own) (sep 𝓤 (sem 𝓛 Own) (sem 𝓛 Own)) → (κ : Lft) (s : Share)
+  pub calls_sharing : K → FmC 𝓤 H 𝓛.laws C → {f : Callee} {xs : List Operand} {d : Place} {rest : Body} {vs : List Val} (Own : Fml) → ent 𝓤 (sem 𝓛 Own) (sep 𝓤 (sem 𝓛 Own) (sem 𝓛 Own)) → (κ : Lft) (s : Share)
       → (φ : Val → Type 0) → ent 𝓤 (sep 𝓤 (sem 𝓛 Own) (A.lft κ s)) (C f vs (Shares 𝓛 φ κ s)) → ((i j : Item 𝓤) → Opds K 𝓛 (i ∷ j ∷ Γ) E xs vs)
       → ((v : Val) → φ v → Seq K 𝓛 (‵ Own ∷ ‵ (flft κ s) ∷ Γ) (lands C Λ E d v rest q)) → Seq K 𝓛 (‵ Own ∷ ‵ (flft κ s) ∷ Γ) (runs C Λ E (seq (call f xs d) rest) q)
   calls_sharing t fm {f} {xs} {d} {rest} {vs} Own twice κ s φ met os k =

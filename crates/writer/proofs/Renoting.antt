@@ -19,7 +19,7 @@ use Rattle.model.proofs.Loops.{each_snoc, map_snoc}
 use Rattle.model.proofs.Loaded.{Loaded, loaded, Bytes, body_good}
 use Rattle.model.proofs.Writing.{sum_suc, sum_mono, counts_sum, from_size, from_suc, from_operations, history_from_lem, same_bytes}
 use Rattle.model.proofs.Logs.{has_log_of}
-use Rattle.log.specs.Reading.{InLog, IsOperation}
+use Rattle.logs.specs.Reading.{InLog, IsOperation}
 use Rattle.writer.specs.Held.{noted_in, held, held_log, is_open, with_operation, Sized}
 use Rattle.writer.specs.Calls.{fresh_notes, open_refusal, opened_notes, opening, note_refusal, noted_at, noted_notes, noting, close_refusal, closed_notes, closing, write_refusal, writing, buffer_after}
 use Rattle.writer.specs.Again.{operation_noted, operations_noted, begun_notes, next_notes, again_notes, noting_again}

@@ -1,5 +1,7 @@
 // A writer of logs: a transaction is opened with a cabinet, reads and writes are noted, it is closed, and at the end the log is written.
 // Notes go into each call by value and come back from it in the answer. Anyone may put notes together; no call requires anything.
+#![tactic(auto)]
+
 ghost use Rattle.std.specs.Prelude.{◌≡◌, ◌-◌, ◌<◌, ◌≤◌, length};
 ghost use Rattle.writer.specs.Rows.{at};
 ghost use Rattle.writer.specs.Calls.{fresh_notes, opening, noted_at, noting, closing, writing, buffer_after};
@@ -12,7 +14,7 @@ mod tests;
 
 // The notes: whether a transaction is open, the count of transactions, the cabinet and the count of operations of each, and the operations of all,
 // one after another: kind (0 read, 1 write), key and argument.
-#[derive(Drop)]
+#[derive(Clone, Copy)]
 pub struct Notes {
     pub opened: bool,
     pub transactions: usize,
@@ -24,14 +26,14 @@ pub struct Notes {
 }
 
 // The number of a refusal, or 0, and the notes after the call.
-#[derive(Drop)]
+#[derive(Clone, Copy)]
 pub struct Noted {
     pub number: u8,
     pub notes: Notes,
 }
 
 // The number of a refusal, or 0, the length of the log that was written, or 0, and the notes as found.
-#[derive(Drop)]
+#[derive(Clone, Copy)]
 pub struct Written {
     pub number: u8,
     pub length: usize,
@@ -164,12 +166,12 @@ impl Notes {
     pub fn again(log: &[u8]) -> Noted
         ensures { result ≡ noting_again log.now }
     {
-        let number = log::number(log);
+        let number = logs::number(log);
         let mut notes = Notes::fresh();
         if number != 0 {
             return Noted { number, notes };
         }
-        let n = log::transactions(log);
+        let n = logs::transactions(log);
         let mut t: usize = 0;
         while t < n {
             notes = again::note_transaction(notes, log, t);

@@ -73,7 +73,7 @@ fn in_room(notes: Notes) -> bool
 fn is_log(log: &[u8]) -> bool
     ensures { result ≡ is_log log.now }
 {
-    log::number(log) == 0
+    logs::number(log) == 0
 }
 
 // Whether Load would take the log to be written. It is written to an array first, so that a refusal leaves the buffer as it was.

@@ -90,6 +90,6 @@ pub fn show() {
     let in_rounds = long(true);
     show_log(b"one of 96 operations, in rounds:", &in_rounds, 392);
     let mut input = io::buffer();
-    let n = io::read_full(libc::STDIN_FILENO, &mut input);
+    let n = io::read_full(0, &mut input);
     show_samples(&input[..n]);
 }

@@ -69,7 +69,7 @@ pub fn same(a: Notes, b: Notes) -> bool {
 // ---- writing
 
 // What a writing gives and leaves of a buffer of nines: its number and length, whether the notes are as found, and the bytes.
-#[derive(Drop)]
+#[derive(Clone, Copy)]
 pub struct Left {
     pub number: u8,
     pub length: usize,

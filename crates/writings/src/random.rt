@@ -128,7 +128,7 @@ fn changed(log: [u8; 1156], length: usize, seed: u64) -> [u8; 1156] {
 
 // The histories; those noted, written, loaded and compared alike; those with a change that Load takes and that are written as the log; those that Load refuses
 // and that are refused with 33; and of those the ones refused by Load with each number.
-#[derive(Drop)]
+#[derive(Clone, Copy)]
 pub struct Tally {
     pub all: u64,
     pub alike: u64,

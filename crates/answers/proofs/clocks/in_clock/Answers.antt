@@ -1,0 +1,6 @@
+use Rattle.answers.proofs.Rooms.{in_clock_lem}
+use borrow.Author.Rules.{rules}
+use Rattle.answers.proofs.clocks.in_clock.Goals as goal
+
+pub returns : goal.returns
+returns c = in_clock_lem _ _ c.requires c.copy_seconds.ensures

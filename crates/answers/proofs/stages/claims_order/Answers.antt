@@ -1,0 +1,9 @@
+use Rattle.answers.proofs.Holding.{claims_is}
+use lib.Seq.{length-take-le}
+use mathlib.Core.Path.{sym}
+use native.Mathlib.Omega.{arith}
+use borrow.Author.Rules.{rules}
+use Rattle.answers.proofs.stages.claims_order.Goals as goal
+
+pub returns : goal.returns
+returns c = claims_is _ _ _ _ _ c.transactions-n.ensures.0 c.is_order.ensures

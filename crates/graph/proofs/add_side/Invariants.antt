@@ -1,0 +1,12 @@
+use Rattle.std.proofs.Common.{◌≡◌, ℕ, ◌-◌, ◌^◌, ◌<◌, ◌≤◌, get_or, ap, ◌∙◌, arith, w32, Fits, rules}
+use Rattle.model.specs.Polygraph.{with_side}
+use Rattle.graph.specs.Bodies.{pointed}
+use Rattle.graph.proofs.Sweeps.{Swept, swept_start, swept_next, swept_end}
+use Rattle.graph.proofs.Rows.{point_is}
+use Rattle.graph.proofs.add_side.Given as goal
+
+abbrev pub invariant-loop-i : goal.invariant-loop-i
+invariant-loop-i l = Swept (pointed l.from l.to) l.initial.out l.out l.i
+
+abbrev pub decreases-loop-i : goal.decreases-loop-i
+decreases-loop-i l = 32 - l.i

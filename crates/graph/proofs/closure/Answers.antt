@@ -1,0 +1,12 @@
+use Rattle.std.proofs.Common.{◌≡◌, ℕ, ◌-◌, ◌^◌, ◌<◌, ◌≤◌, get_or, sym, refl, ap, ◌∙◌, add-one, arith, w32, Fits, rules}
+use Rattle.model.specs.Polygraph.{through}
+use Rattle.model.proofs.Reach.{rounds, rounds_suc}
+use Rattle.graph.proofs.Rows.{rounds_below}
+use Rattle.graph.proofs.closure.Goals as goal
+
+pub returns : goal.returns
+returns c =
+    let g = c.args.rows in
+    let t = c.top-n in
+    let l = c.loop-k in
+    l.invariant.1 ∙ rounds_below g t.result (search rules) (λ u. (let f : Fits w32 (get_or g u 0) = search rules in f.fits)) t.ensures.1 l.k (omega (arith, l.invariant.0)) t.ensures.0

@@ -1,0 +1,12 @@
+use Rattle.std.proofs.Common.{◌≡◌, ℕ, ◌-◌, ◌<◌, ◌≤◌, false, get_or, sym, ap, ◌∙◌, arith, rules}
+use Rattle.model.specs.Lists.{bit}
+use Rattle.graph.proofs.Rows.{cyclic_yes, cyclic_no, none_next}
+use Rattle.graph.proofs.cyclic.Goals as goal
+
+pub returns-then-has : goal.returns-then-has
+returns-then-has c = λ g e. cyclic_yes c.args.closed g c.loop-u.u (omega arith) (sym c.has.ensures ∙ c.if-has.true) e
+
+pub returns : goal.returns
+returns c =
+    let l = c.loop-u in
+    λ g e. cyclic_no c.args.closed g (λ u h. l.invariant.1 u (omega arith)) e

@@ -1,0 +1,10 @@
+use Rattle.std.proofs.Common.{◌≡◌, ℕ, ◌+◌, ◌-◌, ◌^◌, ◌<◌, ◌≤◌, get_or, subst, arith, w32, Fits, rules}
+use Rattle.graph.specs.Leaving.{LeavesBelow}
+use Rattle.graph.proofs.Rows.{tidy, leaves_fewer}
+use Rattle.graph.proofs.top.Given as goal
+
+abbrev pub invariant-loop-n : goal.invariant-loop-n
+invariant-loop-n l = (l.n ≤ 32) × LeavesBelow l.rows l.n
+
+abbrev pub decreases-loop-n : goal.decreases-loop-n
+decreases-loop-n l = l.n

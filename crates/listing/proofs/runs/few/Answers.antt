@@ -1,0 +1,9 @@
+use Rattle.listing.proofs.Stepping.{few_none, few_some}
+use borrow.Author.Rules.{rules}
+use Rattle.listing.proofs.runs.few.Goals as goal
+
+pub returns-then-set-eq0 : goal.returns-then-set-eq0
+returns-then-set-eq0 c = few_none c.args.set c.if-set-eq0.true
+
+pub returns : goal.returns
+returns c = few_some c.args.set _ c.ranges.set.fits c.if-set-eq0.false c.clear_low.ensures.0 c.clear_low.ensures.1

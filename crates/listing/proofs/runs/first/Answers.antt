@@ -1,0 +1,12 @@
+use borrow.Author.Tests.{eq-eqb, ne_eqb}
+use Rattle.listing.specs.Runs.{first_by}
+use borrow.Author.Rules.{rules}
+use Rattle.listing.proofs.runs.first.Goals as goal
+
+pub returns-then-encoding-eq2 : goal.returns-then-encoding-eq2
+unfolding first_by
+returns-then-encoding-eq2 c = simp (eq-eqb _ _ c.if-encoding-eq2.true) c.head.ensures
+
+pub returns-else-encoding-eq2 : goal.returns-else-encoding-eq2
+unfolding first_by
+returns-else-encoding-eq2 c = simp (ne_eqb _ _ c.if-encoding-eq2.false)

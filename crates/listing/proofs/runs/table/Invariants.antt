@@ -1,0 +1,11 @@
+use native.Mathlib.Omega.{arith}
+use Prim.Native.Nat.{◌≤◌, ◌-◌}
+use borrow.Author.Rules.{rules}
+use Rattle.listing.proofs.Keys.{Keys, keys_none, keys_next, keys_room, keys_all}
+use Rattle.listing.proofs.runs.table.Given as goal
+
+abbrev pub invariant-loop-k : goal.invariant-loop-k
+invariant-loop-k l = (l.k ≤ 32) × Keys l.encoding l.writers l.marks l.n l.initial.out l.initial.chosen l.k l.out l.count l.chosen
+
+abbrev pub decreases-loop-k : goal.decreases-loop-k
+decreases-loop-k l = 32 - l.k

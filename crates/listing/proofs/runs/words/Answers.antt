@@ -1,0 +1,23 @@
+use native.Mathlib.Omega.{arith}
+use Prim.Native.Nat.{◌^◌, ◌<◌}
+use mathlib.Core.Path.{◌≡◌, refl, sym, ◌∙◌}
+use Rattle.graph.specs.Members.{members}
+use Rattle.graph.proofs.MemberLaws.{members_next, low_below}
+use Rattle.listing.specs.Runs.{words_by}
+use Rattle.listing.proofs.Stepping.{words_next, words_none}
+use Rattle.listing.proofs.runs.words.Goals as goal
+
+pub loop-m-preserved : goal.loop-m-preserved
+loop-m-preserved c =
+    let l = c.loop-m in
+    let a = c.args in
+    let next = members_next l.m c.clear_low-m.result l.invariant.0 c.loop-m-test.true c.clear_low-m.ensures.1 in (
+      omega (arith, c.clear_low-m.ensures.0, l.invariant.0),
+      l.invariant.1 ∙ words_next a.encoding a.n a.writers.now a.marks.now a.k l.out l.m _ _ _ next c.word.ensures,
+    )
+
+pub returns : goal.returns
+returns c =
+    let l = c.loop-m in
+    let a = c.args in
+    words_none a.encoding a.n a.writers.now a.marks.now a.k l.out l.m c.loop-m-test.false ∙ sym l.invariant.1

@@ -1,7 +1,0 @@
-pub mod Keys
-pub mod Numbers
-pub mod Placing
-pub mod Reading
-pub mod Viewing
-pub mod Starts
-pub mod Flat

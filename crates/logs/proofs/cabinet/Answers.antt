@@ -1,0 +1,8 @@
+use mathlib.Core.Path.{ap}
+use borrow.Author.Rules.{rules}
+use Rattle.logs.specs.declared.view.Entry.{Entry}
+use Rattle.logs.proofs.Reading.{inside_entry}
+use Rattle.logs.proofs.cabinet.Goals as goal
+
+pub entry_of-requires : goal.entry_of-requires
+entry_of-requires c = inside_entry _ c.args.t c.requires

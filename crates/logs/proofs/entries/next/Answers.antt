@@ -1,0 +1,7 @@
+use Rattle.logs.proofs.Numbers.{next_is}
+use borrow.Author.Rules.{rules}
+use Rattle.logs.proofs.entries.next.Goals as goal
+
+pub returns : goal.returns
+returns c =
+    next_is _ c.args.t c.args.c _ _ _ c.entry_of-e.ensures c.entry_number.ensures c.or_else-number.ensures

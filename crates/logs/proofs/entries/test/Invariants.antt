@@ -1,0 +1,14 @@
+use Rattle.logs.proofs.Numbers.{entries_none, entries_next, sum_low}
+use Rattle.logs.specs.declared.entries.Summed.{Summed}
+use Rattle.logs.specs.Tests.{next_by, summed_to}
+use mathlib.Core.Path.{◌≡◌, ap, ◌∙◌}
+use native.Mathlib.Omega.{arith}
+use borrow.Author.Rules.{rules}
+use Prim.Native.Nat.{◌≤◌, ◌-◌}
+use Rattle.logs.proofs.entries.test.Given as goal
+
+abbrev pub invariant-loop-t : goal.invariant-loop-t
+invariant-loop-t l = (l.t ≤ l.n) × (l.c ≡ summed_to l.log l.t)
+
+abbrev pub decreases-loop-t : goal.decreases-loop-t
+decreases-loop-t l = l.n - l.t

@@ -1,0 +1,32 @@
+use Rattle.polygraph.proofs.Timing.{step_next}
+use Rattle.polygraph.specs.Tables.{put_at}
+use Rattle.polygraph.specs.Clock.{clock_step, with_clock}
+use Rattle.model.specs.Lists.{fold, up_to}
+use Rattle.model.specs.Times.{times}
+use Prim.Native.Nat.{◌≤◌, ◌-◌}
+use lib.ListN.{length, get_or, set}
+use lib.Bits.{bit_or}
+use mir.Val.{Fits}
+use mir.Syntax.{w32}
+use mathlib.Core.Path.{◌≡◌, ap, ◌∙◌}
+use native.Mathlib.Omega.{arith}
+use borrow.Author.Rules.{rules}
+use Rattle.polygraph.proofs.clock.add.Goals as goal
+
+pub loop-u-preserved : goal.loop-u-preserved
+unfolding put_at
+loop-u-preserved c =
+    let a = c.args in
+    let l = c.loop-u in (
+      omega arith,
+      step_next (times a.begin.now a.end.now a.drift) a.out.now l.out _ l.u l.invariant.1
+          (ap (λ x. set l.out l.u (bit_or (get_or l.out l.u 0) x)) c.after-edges.ensures),
+    )
+
+pub returns : goal.returns
+unfolding with_clock
+returns c =
+    let a = c.args in
+    let l = c.loop-u in
+    let end : l.u ≡ length a.end.now = omega arith in
+    l.invariant.1 ∙ ap (λ n. fold (clock_step (times a.begin.now a.end.now a.drift)) a.out.now (up_to n)) end

@@ -1,0 +1,21 @@
+use Rattle.polygraph.proofs.Timing.{word_next, word_all}
+use Rattle.model.specs.Lists.{word_of}
+use Prim.Native.Nat.{ℕ, ◌≤◌, ◌-◌}
+use lib.Dec.{ltb}
+use lib.ListN.{length, get_or}
+use mathlib.Core.Path.{◌≡◌, refl, ◌∙◌}
+use native.Mathlib.Omega.{arith}
+use borrow.Author.Rules.{rules}
+use Rattle.polygraph.proofs.clock.after.Goals as goal
+
+pub loop-v-preserved : goal.loop-v-preserved
+loop-v-preserved c =
+    let a = c.args in
+    let l = c.loop-v in
+    (omega arith, c.put_if-mask.ensures ∙ word_next (λ (i : ℕ). ltb a.moment (get_or a.begin.now i 0)) l.v l.mask l.invariant.1)
+
+pub returns : goal.returns
+returns c =
+    let a = c.args in
+    let l = c.loop-v in
+    word_all a.begin.now a.moment l.v l.mask (omega arith) (omega (arith, c.requires)) l.invariant.1

@@ -1,0 +1,21 @@
+use borrow.Author.Rules.{rules}
+use Prim.Native.Nat.{◌≤◌, ◌-◌}
+use native.Mathlib.Omega.{arith}
+use mathlib.Core.Path.{◌≡◌, refl, ap, ◌∙◌}
+use lib.Dec.{eqb}
+use lib.ListN.{take, get_or}
+use Rattle.model.specs.Lists.{fold}
+use Rattle.model.specs.Log.{history_of}
+use Rattle.polygraph.specs.Edges.{cabinet_rows, read_step}
+use Rattle.polygraph.proofs.Marks.{fold_take}
+use Rattle.polygraph.proofs.ReadTable.{slot_in_lt}
+use Rattle.polygraph.proofs.ReadEdges.{known_all}
+use Rattle.polygraph.proofs.known.Goals as goal
+
+pub returns : goal.returns
+returns c =
+    let a = c.args in
+    let l = c.loop-i in
+    let end : l.i ≡ a.count = omega arith in
+    known_all a.log.now c.requires.0.loads a.encoding a.writers.now a.marks.now a.reads.now l.out a.count c.requires.0 c.requires.3
+    (l.invariant.1 ∙ ap (λ n. fold (read_step (eqb a.encoding 2) a.writers.now a.marks.now) (cabinet_rows (history_of a.log.now)) (take n a.reads.now)) end)

@@ -1,0 +1,20 @@
+use Rattle.replay.specs.Steps.{kept_by}
+use Rattle.logs.proofs.Reading.{inside_few}
+use mathlib.Core.Path.{sym, ◌∙◌}
+use borrow.Author.Tests.{not-true, not-false}
+use borrow.Author.Rules.{rules}
+use Rattle.replay.proofs.cabinets.keeps_pair.Goals as goal
+
+pub returns-then-not-sent_before : goal.returns-then-not-sent_before
+unfolding kept_by
+returns-then-not-sent_before c = simp (sym c.sent_before.ensures ∙ c.if-not-sent_before.true)
+
+pub bounds-places-u : goal.bounds-places-u
+bounds-places-u c = inside_few _ _ c.requires.0
+
+pub bounds-places-v : goal.bounds-places-v
+bounds-places-v c = inside_few _ _ c.requires.1
+
+pub returns : goal.returns
+unfolding kept_by
+returns c = simp (sym c.sent_before.ensures ∙ c.if-not-sent_before.false)

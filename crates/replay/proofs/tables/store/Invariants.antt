@@ -1,0 +1,13 @@
+use Rattle.replay.proofs.Running.{stored_to, stored_none, put_is, stored_all}
+use Rattle.logs.proofs.Reading.{inside_few, operation_is}
+use mathlib.Core.Path.{◌≡◌, ◌∙◌}
+use borrow.Author.Rules.{rules}
+use native.Mathlib.Omega.{arith}
+use Prim.Native.Nat.{◌≤◌, ◌-◌}
+use Rattle.replay.proofs.tables.store.Given as goal
+
+abbrev pub invariant-loop-m : goal.invariant-loop-m
+invariant-loop-m l = (l.m ≤ l.count) × (l.out ≡ stored_to l.marks l.log l.initial.out l.t l.m)
+
+abbrev pub decreases-loop-m : goal.decreases-loop-m
+decreases-loop-m l = l.count - l.m

@@ -1,0 +1,19 @@
+use native.Mathlib.Omega.{arith}
+use borrow.Author.Rules.{rules}
+use Rattle.report.proofs.Texts.{wrote_none, wrote_next, wrote_as, table_none, table_next, table_length}
+use Rattle.report.specs.Text.{Wrote, table_text, marked}
+use Prim.Native.Nat.{◌≤◌, ◌-◌}
+use mathlib.Core.Path.{◌≡◌, ap, sym}
+use Rattle.report.proofs.put_table.Goals as goal
+
+pub loop-k-init : goal.loop-k-init
+loop-k-init c = (omega arith, wrote_as (sym (table_none _ _)) (wrote_none _ _ (omega arith)))
+
+pub put_if_written-end-requires : goal.put_if_written-end-requires
+put_if_written-end-requires c = omega (arith, table_length (marked c.args.writers) c.args.table c.loop-k.k)
+
+pub loop-k-preserved : goal.loop-k-preserved
+unfolding marked
+loop-k-preserved c =
+    let l = c.loop-k in
+    (omega arith, wrote_next l.invariant.1 c.put_if_written-end.ensures (table_next (marked c.args.writers) c.args.table l.k))

@@ -1,0 +1,9 @@
+use Rattle.search.proofs.Steps.{held_first, held_second}
+use borrow.Author.Rules.{rules}
+use Rattle.search.proofs.held.Goals as goal
+
+pub returns-then-side_held : goal.returns-then-side_held
+returns-then-side_held c = held_first _ _ _ c.side_held.ensures c.if-side_held.true
+
+pub returns : goal.returns
+returns c = held_second _ _ _ _ c.side_held.ensures c.if-side_held.false c.side_held-2.ensures

@@ -1,0 +1,12 @@
+use native.Mathlib.Omega.{arith}
+use Prim.Native.Nat.{◌≤◌, ◌<◌, ◌-◌, ℕ}
+use Rattle.writer.specs.Rows.{at}
+use Rattle.writer.proofs.Counting.{narrow_in, narrow_not, narrow_more}
+use borrow.Author.Rules.{rules}
+use Rattle.writer.proofs.counts.narrow.Given as goal
+
+abbrev pub invariant-loop-t : goal.invariant-loop-t
+invariant-loop-t l = (l.t ≤ l.n) × ((s : ℕ) → s < l.t → at l.counts s < 256)
+
+abbrev pub decreases-loop-t : goal.decreases-loop-t
+decreases-loop-t l = l.n - l.t

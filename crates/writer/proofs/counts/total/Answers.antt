@@ -1,0 +1,17 @@
+use native.Mathlib.Omega.{arith}
+use Prim.Native.Nat.{◌≤◌, ◌*◌, ◌-◌}
+use mathlib.Core.Path.{◌≡◌, ap, sym, ◌∙◌}
+use Rattle.model.specs.Writing.{sum_of}
+use Rattle.model.proofs.Writing.{sum_none}
+use Rattle.writer.specs.Rows.{at}
+use Rattle.writer.proofs.Counting.{total_next}
+use borrow.Author.Rules.{rules}
+use Rattle.writer.proofs.counts.total.Goals as goal
+
+pub loop-t-init : goal.loop-t-init
+loop-t-init c = (omega arith, (sym (sum_none _), omega arith))
+
+pub loop-t-preserved : goal.loop-t-preserved
+loop-t-preserved c =
+    let l = c.loop-t in
+    (omega arith, (total_next c.args.counts l.t l.sum _ l.invariant.1.0 c.wide-sum.ensures.0, omega (arith, c.wide-sum.ensures.1)))

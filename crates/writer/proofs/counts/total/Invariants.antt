@@ -1,0 +1,15 @@
+use native.Mathlib.Omega.{arith}
+use Prim.Native.Nat.{◌≤◌, ◌*◌, ◌-◌}
+use mathlib.Core.Path.{◌≡◌, ap, sym, ◌∙◌}
+use Rattle.model.specs.Writing.{sum_of}
+use Rattle.model.proofs.Writing.{sum_none}
+use Rattle.writer.specs.Rows.{at}
+use Rattle.writer.proofs.Counting.{total_next}
+use borrow.Author.Rules.{rules}
+use Rattle.writer.proofs.counts.total.Given as goal
+
+abbrev pub invariant-loop-t : goal.invariant-loop-t
+invariant-loop-t l = (l.t ≤ l.n) × ((l.sum ≡ sum_of (at l.counts) l.t) × (l.sum ≤ 65535 * l.t))
+
+abbrev pub decreases-loop-t : goal.decreases-loop-t
+decreases-loop-t l = l.n - l.t
