@@ -1,5 +1,5 @@
 /*
- * The proved checker, for programs in C. Link target/staticlib/libhost.a, which `rt staticlib host` writes (x86-64 Linux).
+ * The proved checker, for programs in C. Link target/staticlib/libhost.a, which `examples/library` writes (x86-64 Linux).
  *
  * A log has the layout of document 01 (../shared/01-scope.md): T transactions, at most 32, and N operations, at most 256, in at most 1,156 bytes.
  * Any bytes may be passed as a log, an order, a start or times, and any number as a setting or a drift: what is wrong is refused by its number.

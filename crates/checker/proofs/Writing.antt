@@ -147,7 +147,7 @@ module _ (c : Case) where
         e ∙ ap (λ k. replay (history_of (contents c)) c.starting (take k c.order) ++ drop 32 ys) p
         ∙ ap (λ t. t ++ drop 32 ys) (sym (timed_table (times_in c.clock) (history_of (contents c)) c.starting (order_in c)))
 
-  -- ---- the lent list of bills, as the walk leaves it
+  -- ---- the lent list of bills, as Bills leaves it
 
   pub bills_billing : (ys zs : List Bill) (m : Made) (r : Answer) → Makes c (length ys) m → zs ≡ take m.count m.bills ++ drop m.count ys → r ≡ replying c m.number → Bills c ys r zs
   unfolding bills_left replying

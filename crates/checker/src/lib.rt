@@ -107,7 +107,7 @@ impl Case {
         }
     }
 
-    // Writes the polygraph of a setting to the two lists, and gives the count of constraints left. Proved by hand.
+    // Writes the polygraph of a setting to the two lists, and gives the count of constraints left.
     pub fn encode<'a, 'b>(
         self,
         encoding: u8,
@@ -128,7 +128,7 @@ impl Case {
         polygraphs::answer(self, 0, r.left)
     }
 
-    // Writes the constraints of a setting to the list, as Encode does; stores and gives the first legal order, or 'no order'. Proved by hand.
+    // Writes the constraints of a setting to the list, as Encode does; stores and gives the first legal order, or 'no order'.
     pub fn decide(mut self, encoding: u8, pruning: u8, list: &mut [Constraint]) -> Decision
         ensures { Decides self encoding pruning list.old result list.new }
     {
@@ -180,7 +180,7 @@ impl Case {
         }
     }
 
-    // Writes the bills of the sixteen cabinets for the moves of the gates in the order's replay, from the starting table: what each pays for wear. Proved by hand.
+    // Writes the bills of the sixteen cabinets for the moves of the gates in the order's replay, from the starting table: what each pays for wear.
     pub fn bills(self, list: &mut [Bill]) -> Answer
         ensures { Bills self list.old result list.new }
     {

@@ -71,7 +71,7 @@ pub fn prepare(
 }
 
 // The polygraph that was planned goes into the list: the constraints that pruning leaves, in list order, then four zeros up to the count before
-// pruning. It gives the known edges as pruning leaves them, and the count left. Proved by hand.
+// pruning. It gives the known edges as pruning leaves them, and the count left.
 pub fn write<'a, 'b>(
     tables: &'a [u32; WORDS],
     chosen: &'a [u16; PLACES],
@@ -89,7 +89,7 @@ pub fn write<'a, 'b>(
     r
 }
 
-// The first constraints of the tables and the numbers go into the list, as many as pruning left, then four zeros up to the count before pruning. Proved by hand.
+// The first constraints of the tables and the numbers go into the list, as many as pruning left, then four zeros up to the count before pruning.
 pub fn write_left<'a, 'b>(
     tables: &'a [u32; WORDS],
     chosen: &'a [u16; PLACES],

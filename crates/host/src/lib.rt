@@ -72,8 +72,7 @@ fn check(log: &[u8], begin: &[u32], end: &[u32], drift: u32, order: &[u8]) -> u3
 }
 
 // The same of a log alone, without times.
-#[unsafe(no_mangle)]
-pub extern "C" fn beaconcrumb_check(log: &[u8], order: &[u8]) -> u32
+pub fn beaconcrumb_check(log: &[u8], order: &[u8]) -> u32
     ensures { result ≡ check_code log.now order.now }
 {
     let zeros = [0u32; 1];
@@ -83,8 +82,7 @@ pub extern "C" fn beaconcrumb_check(log: &[u8], order: &[u8]) -> u32
 
 // The same of a log and the bytes of its times: 37 behind the log's numbers, where begin and end are neither both empty nor both of four bytes for each transaction, and
 // then 38, as Load.
-#[unsafe(no_mangle)]
-pub extern "C" fn beaconcrumb_check_strict(
+pub fn beaconcrumb_check_strict(
     log: &[u8],
     begin: &[u8],
     end: &[u8],
@@ -189,8 +187,7 @@ fn decide(
 }
 
 // The same of a log alone, which starts from 32 zeros and has no times.
-#[unsafe(no_mangle)]
-pub extern "C" fn beaconcrumb_decide(
+pub fn beaconcrumb_decide(
     log: &[u8],
     encoding: u8,
     pruning: u8,
@@ -208,8 +205,7 @@ pub extern "C" fn beaconcrumb_decide(
 
 // The same of a log, the 64 bytes of the table that it starts from, and the bytes of its times: first of all 36 for a start of any other length, and 37 as for
 // Check.
-#[unsafe(no_mangle)]
-pub extern "C" fn beaconcrumb_decide_strict(
+pub fn beaconcrumb_decide_strict(
     log: &[u8],
     start: &[u8],
     begin: &[u8],
@@ -250,8 +246,7 @@ pub extern "C" fn beaconcrumb_decide_strict(
 }
 
 // The same without times: two empty lists, and drift 0. So the start is tested and read in one place.
-#[unsafe(no_mangle)]
-pub extern "C" fn beaconcrumb_decide_from(
+pub fn beaconcrumb_decide_from(
     log: &[u8],
     start: &[u8],
     encoding: u8,
@@ -273,8 +268,7 @@ pub extern "C" fn beaconcrumb_decide_from(
 // What each cabinet pays for the gates that it moves, and how far they travel: sixteen bills of twelve bytes each, in a list of bytes. Decide above finds the order, in a
 // setting of this function's own and in buffers that have room for any; so what it refuses is refused here, in its turn, and 25 speaks of the list of bills alone. The
 // table that Decide writes beside the order plays no part.
-#[unsafe(no_mangle)]
-pub extern "C" fn beaconcrumb_bills(
+pub fn beaconcrumb_bills(
     log: &[u8],
     start: &[u8],
     begin: &[u8],
@@ -358,8 +352,7 @@ fn encode(
 }
 
 // The same of a log alone, without times.
-#[unsafe(no_mangle)]
-pub extern "C" fn beaconcrumb_encode(log: &[u8], encoding: u8, pruning: u8, out: &mut [u8]) -> u32
+pub fn beaconcrumb_encode(log: &[u8], encoding: u8, pruning: u8, out: &mut [u8]) -> u32
     ensures result { result ≡ encode_code log.now encoding pruning (length out.old) }
     ensures list { out.new ≡ encode_after log.now encoding pruning out.old }
 {
@@ -369,8 +362,7 @@ pub extern "C" fn beaconcrumb_encode(log: &[u8], encoding: u8, pruning: u8, out:
 }
 
 // The same of a log and the bytes of its times, with 37 and 38 as for Check.
-#[unsafe(no_mangle)]
-pub extern "C" fn beaconcrumb_encode_strict(
+pub fn beaconcrumb_encode_strict(
     log: &[u8],
     begin: &[u8],
     end: &[u8],

@@ -1,3 +1,4 @@
 pub mod Fresh
 pub mod Packs
 pub mod Within
+pub mod Places

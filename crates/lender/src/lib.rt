@@ -1,5 +1,5 @@
 // Encode and Decide for callers that have no list of constraints, and a planned polygraph as words for those that have no case either: each function here but `pack`
-// makes a list of its own and lends it, so that its callers, who pass numbers and slices of numbers, need no proof by hand.
+// makes a list of its own and lends it, so that its callers, who pass numbers and slices of numbers, lend no list.
 #![tactic(auto)]
 
 ghost use Rattle.std.specs.Prelude.{◌≡◌, ℕ, ◌≤◌, ◌*◌, length, replicate};
@@ -24,7 +24,7 @@ const NOTHING: Constraint = Constraint {
     toB: 0,
 };
 
-// The first n constraints of a list, four words each. Proved by hand.
+// The first n constraints of a list, four words each.
 pub fn pack<'a, 'b>(list: &'a mut [Constraint], n: usize, out: &'b mut [u32])
     requires { (n ≤ length list.old) × (4 * n ≤ length out.old) }
     ensures { (list.new ≡ list.old) × (out.new ≡ packed n list.old out.old) }
@@ -37,7 +37,7 @@ pub fn pack<'a, 'b>(list: &'a mut [Constraint], n: usize, out: &'b mut [u32])
     }
 }
 
-// Encode on a list of 4,096 places, which are always enough; then the constraints left go out as four words each. Proved by hand.
+// Encode on a list of 4,096 places, which are always enough; then the constraints left go out as four words each.
 pub fn encode<'a, 'b>(
     c: Case,
     encoding: u8,
@@ -57,7 +57,7 @@ pub fn encode<'a, 'b>(
 }
 
 // A polygraph that was planned, written to a list of 4,096 places: the known edges as pruning leaves them and the count left; then the constraints left
-// go out as four words each. Proved by hand.
+// go out as four words each.
 pub fn written<'a, 'b>(
     tables: &'a [u32; WORDS],
     chosen: &'a [u16; PLACES],
@@ -75,7 +75,7 @@ pub fn written<'a, 'b>(
     r
 }
 
-// Decide on a list of 4,096 places. Proved by hand.
+// Decide on a list of 4,096 places.
 pub fn decide(c: Case, encoding: u8, pruning: u8) -> Decision
     ensures { result ≡ deciding c encoding pruning 4096 }
 {

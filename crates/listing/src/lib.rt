@@ -122,7 +122,7 @@ fn choose(columns: u32, row: usize, from: u16, chosen: &mut [u16; PLACES]) -> u1
     n
 }
 
-// The constraints of the first n numbers are written to the list: a thin loop, proved by hand.
+// The constraints of the first n numbers are written to the list.
 pub fn list<'a, 'b>(
     tables: &'a [u32; WORDS],
     chosen: &'a [u16; PLACES],

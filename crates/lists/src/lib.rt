@@ -1,5 +1,5 @@
 // Encode, Decide and Bills on lists as the test programs want them: of so many places, each of which holds a mark, with all of them shown; and Decide twice on
-// one list. As in `lender`, callers need no proof by hand. And what they compare: lists of words.
+// one list. As in `lender`, callers lend no list. And what they compare: lists of words.
 #![tactic(auto)]
 
 ghost use Rattle.std.specs.Prelude.{◌≡◌, ◌++◌, ◌≤◌, ◌*◌, ◌-◌, length, replicate};
@@ -11,7 +11,7 @@ ghost use Rattle.lender.specs.Packing.{packed};
 use checker::{Answer, Bill, Case, Decision, Encoding};
 use model::Constraint;
 
-// Encode on a list of so many places, at most 4,096, that each hold `mark`; then the list goes out, four words a place. Proved by hand.
+// Encode on a list of so many places, at most 4,096, that each hold `mark`; then the list goes out, four words a place.
 pub fn encode<'a, 'b>(
     c: Case,
     encoding: u8,
@@ -32,7 +32,7 @@ pub fn encode<'a, 'b>(
     e
 }
 
-// Decide on a list of so many places, at most 4,096, that each hold `mark`. Proved by hand.
+// Decide on a list of so many places, at most 4,096, that each hold `mark`.
 pub fn decide(c: Case, encoding: u8, pruning: u8, places: usize, mark: Constraint) -> Decision
     requires { places ≤ 4096 }
     ensures { result ≡ deciding c encoding pruning places }
@@ -42,7 +42,7 @@ pub fn decide(c: Case, encoding: u8, pruning: u8, places: usize, mark: Constrain
 }
 
 // Decide on one list twice, of so many places, at most 4,096: first for another case, in a setting of its own; then the list goes out, four words a
-// place. Proved by hand.
+// place.
 pub fn decide_again(
     first: Case,
     e: u8,
@@ -72,7 +72,7 @@ pub struct Billed {
     pub list: [Bill; 20],
 }
 
-// Bills on a list of so many places, at most 20, of 20 that each hold `mark`. Proved by hand.
+// Bills on a list of so many places, at most 20, of 20 that each hold `mark`.
 pub fn bills(c: Case, places: usize, mark: Bill) -> Billed
     requires { places ≤ 20 }
     ensures { (result.answer ≡ replying c (bills_refused c places)) × (result.list ≡ bills_left c (replicate places mark) ++ replicate (20 - places) mark) }

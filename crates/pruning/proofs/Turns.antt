@@ -1,4 +1,4 @@
--- The loops of a skim and of the passes, turn by turn, as facts on lists: what the walks cite. Assumes nothing.
+-- The loops of a skim and of the passes, turn by turn, as facts on lists: what the proofs cite. Assumes nothing.
 --     Upto, upto_none, upto_next, upto_hit, upto_stop      a skim that stands at i, with j kept
 --     Stands, stands_start, stands_next, stands_end        the passes at a place
 --     todo, todo_less      what is left to do falls with each turn

@@ -1,4 +1,4 @@
--- The loop that writes four zeros, as facts on lists: what the walk cites. Assumes nothing.
+-- The loop that writes four zeros, as facts on lists: what the proof cites. Assumes nothing.
 --     zeroed           the list once the places from `from` on, below i, hold four zeros.        zeroed_none, zeroed_next     at the start; one place more
 use Prim.Native.Nat.{ℕ, zero, suc, ◌+◌, ◌-◌, ◌≤◌, ◌<◌}
 use native.Mathlib.Omega.{arith}

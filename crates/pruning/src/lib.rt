@@ -77,7 +77,7 @@ fn judge(closed: &[u32; 32], c: Constraint) -> Resolution
     }
 }
 
-// Constraints that stay are moved to the front, up to the next that is dropped: a thin loop, proved by hand.
+// Constraints that stay are moved to the front, up to the next that is dropped.
 fn skim<'a, 'b>(
     closed: &'a [u32; 32],
     list: &'b mut [Constraint],
@@ -163,7 +163,7 @@ fn begin(n: u16, pruning: u8) -> Place
     }
 }
 
-// With pruning 1, passes over the first n constraints, until one drops none: those left stand first, in their order. A thin loop, proved by hand.
+// With pruning 1, passes over the first n constraints, until one drops none: those left stand first, in their order.
 pub fn prune(rows: [u32; 32], list: &mut [Constraint], n: u16, pruning: u8) -> Pruned
     requires { (n ≤ length list.old) × Aims list.old n }
     ensures { Pruning rows list.old n pruning result list.new }
@@ -185,7 +185,7 @@ pub fn prune(rows: [u32; 32], list: &mut [Constraint], n: u16, pruning: u8) -> P
     }
 }
 
-// Four zeros in each place from `from` on, below `end`: a thin loop, proved by hand.
+// Four zeros in each place from `from` on, below `end`.
 pub fn clear(list: &mut [Constraint], from: u16, end: u16)
     requires { (from ≤ end) × (end ≤ length list.old) }
     ensures { list.new ≡ take from list.old ++ (replicate (end - from) no_constraint ++ drop end list.old) }

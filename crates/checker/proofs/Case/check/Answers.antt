@@ -1,0 +1,16 @@
+use Rattle.checker.proofs.Checks.{checking_is, checked_yes}
+use Rattle.answers.proofs.Answering.{judgement_number_lem, judgement_yes_lem}
+use Rattle.answers.specs.Numbers.{judgement_number, judgement_yes}
+use mathlib.Core.Path.{ap, ◌∙◌}
+use borrow.Author.Rules.{rules}
+use Rattle.checker.proofs.Case.check.Goals as goal
+
+pub returns : goal.returns
+returns c =
+    let a = c.args in
+    let e = c.judged-judgement.ensures in
+    record {
+      result = checking_is a.self _ _ e;
+      number = ap judgement_number e ∙ judgement_number_lem _ _;
+      yes = ap judgement_yes e ∙ judgement_yes_lem _ _ ∙ checked_yes a.self _;
+    }

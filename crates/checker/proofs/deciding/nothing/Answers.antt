@@ -1,0 +1,7 @@
+use Rattle.finding.specs.Finding.{refused_outcome}
+use borrow.Author.Rules.{rules}
+use Rattle.checker.proofs.deciding.nothing.Goals as goal
+
+pub returns : goal.returns
+unfolding refused_outcome
+returns c = simp c.none.ensures

@@ -1,0 +1,6 @@
+use Rattle.checker.proofs.Holding.{in_room_lem}
+use borrow.Author.Rules.{rules}
+use Rattle.checker.proofs.held.in_room.Goals as goal
+
+pub returns : goal.returns
+returns c = in_room_lem _ _ c.requires c.copy_bytes.ensures

@@ -1,0 +1,6 @@
+use Rattle.checker.proofs.Holding.{values_copied}
+use borrow.Author.Rules.{rules}
+use Rattle.checker.proofs.held.values_of.Goals as goal
+
+pub returns : goal.returns
+returns c = values_copied _ _ c.requires c.copy_values.ensures

@@ -1,0 +1,71 @@
+use native.Mathlib.Omega.{arith}
+use mathlib.Core.Path.{◌≡◌, sym, ap, subst, ◌∙◌}
+use lib.Dec.{T}
+use lib.ListN.{length, take, replicate}
+use lib.Seq.{length-take-le}
+use Rattle.model.specs.History.{is_order}
+use Rattle.model.specs.Log.{transactions_in, history_of}
+use Rattle.wear.specs.Wear.{moves}
+use Rattle.wear.specs.Bills.{bills_of}
+use Rattle.codes.specs.Images.{values_in}
+use Rattle.codes.proofs.Billing.{bills_refused_lem, bills_short, start_64, log_taken, orders, bills_written}
+use borrow.Author.Rules.{rules}
+use Rattle.host.proofs.beaconcrumb_bills.Goals as goal
+
+pub returns-then-code-ne0-clause-result : goal.returns-then-code-ne0-clause-result
+returns-then-code-ne0-clause-result c =
+    let a = c.args in
+    (bills_refused_lem a.log.now a.start.now a.begin.now a.end.now a.drift (replicate 32 0) (replicate 64 0) (omega arith) (omega arith) _ c.beaconcrumb_decide_strict-code.ensures.result a.out.now c.if-code-ne0.true).0
+
+pub returns-then-code-ne0-clause-list : goal.returns-then-code-ne0-clause-list
+returns-then-code-ne0-clause-list c =
+    let a = c.args in
+    (bills_refused_lem a.log.now a.start.now a.begin.now a.end.now a.drift (replicate 32 0) (replicate 64 0) (omega arith) (omega arith) _ c.beaconcrumb_decide_strict-code.ensures.result a.out.now c.if-code-ne0.true).1
+
+pub returns-then-out-lt192-clause-result : goal.returns-then-out-lt192-clause-result
+returns-then-out-lt192-clause-result c =
+    let a = c.args in
+    (bills_short a.log.now a.start.now a.begin.now a.end.now a.drift (replicate 32 0) (replicate 64 0) (omega arith) (omega arith) _ c.beaconcrumb_decide_strict-code.ensures.result a.out.now c.if-code-ne0.false c.if-out-lt192.true).0
+
+pub returns-then-out-lt192-clause-list : goal.returns-then-out-lt192-clause-list
+returns-then-out-lt192-clause-list c =
+    let a = c.args in
+    (bills_short a.log.now a.start.now a.begin.now a.end.now a.drift (replicate 32 0) (replicate 64 0) (omega arith) (omega arith) _ c.beaconcrumb_decide_strict-code.ensures.result a.out.now c.if-code-ne0.false c.if-out-lt192.true).1
+
+pub transactions-n-requires : goal.transactions-n-requires
+transactions-n-requires c =
+    let a = c.args in
+    log_taken a.log.now a.start.now a.begin.now a.end.now a.drift (replicate 32 0) (replicate 64 0) (omega arith) (omega arith) _ c.beaconcrumb_decide_strict-code.ensures.result a.out.now c.if-code-ne0.false
+
+pub values-values-requires : goal.values-values-requires
+values-values-requires c =
+    let a = c.args in
+    start_64 a.log.now a.start.now a.begin.now a.end.now a.drift (replicate 32 0) (replicate 64 0) (omega arith) (omega arith) _ c.beaconcrumb_decide_strict-code.ensures.result a.out.now c.if-code-ne0.false
+
+pub bills-bills-requires : goal.bills-bills-requires
+bills-bills-requires c =
+    let a = c.args in
+    let z = c.if-code-ne0.false in
+    let order = c.beaconcrumb_decide_strict-code.new.order in (
+      log_taken a.log.now a.start.now a.begin.now a.end.now a.drift (replicate 32 0) (replicate 64 0) (omega arith) (omega arith) _ c.beaconcrumb_decide_strict-code.ensures.result a.out.now z,
+      subst (λ n. T (is_order (transactions_in a.log.now) (take n order))) (sym c.transactions-n.ensures.0)
+          (orders a.log.now a.start.now a.begin.now a.end.now a.drift (replicate 32 0) (replicate 64 0) (omega arith) (omega arith) _ c.beaconcrumb_decide_strict-code.ensures.result a.out.now z order c.beaconcrumb_decide_strict-code.ensures.order),
+    )
+
+pub returns-clause-result : goal.returns-clause-result
+returns-clause-result c =
+    let a = c.args in
+    let order = c.beaconcrumb_decide_strict-code.new.order in
+    (bills_written a.log.now a.start.now a.begin.now a.end.now a.drift (replicate 32 0) (replicate 64 0) (omega arith) (omega arith) _ c.beaconcrumb_decide_strict-code.ensures.result a.out.now c.if-code-ne0.false order c.beaconcrumb_decide_strict-code.ensures.order c.if-out-lt192.false _
+    (c.bills-bills.ensures ∙ ap (λ vs. bills_of (moves (history_of a.log.now) vs (take c.transactions-n.result order))) c.values-values.ensures
+    ∙ ap (λ n. bills_of (moves (history_of a.log.now) (values_in a.start.now) (take n order))) c.transactions-n.ensures.0)
+    _ c.put_bills.ensures).0
+
+pub returns-clause-list : goal.returns-clause-list
+returns-clause-list c =
+    let a = c.args in
+    let order = c.beaconcrumb_decide_strict-code.new.order in
+    (bills_written a.log.now a.start.now a.begin.now a.end.now a.drift (replicate 32 0) (replicate 64 0) (omega arith) (omega arith) _ c.beaconcrumb_decide_strict-code.ensures.result a.out.now c.if-code-ne0.false order c.beaconcrumb_decide_strict-code.ensures.order c.if-out-lt192.false _
+    (c.bills-bills.ensures ∙ ap (λ vs. bills_of (moves (history_of a.log.now) vs (take c.transactions-n.result order))) c.values-values.ensures
+    ∙ ap (λ n. bills_of (moves (history_of a.log.now) (values_in a.start.now) (take n order))) c.transactions-n.ensures.0)
+    _ c.put_bills.ensures).1

@@ -1,0 +1,16 @@
+use Rattle.codes.proofs.Filling.{filled_none, filled_next, rows_long}
+use Rattle.codes.specs.Images.{filled, row_in}
+use Prim.Native.Nat.{◌≤◌, ◌-◌}
+use lib.ListN.{length}
+use mathlib.Core.Path.{◌≡◌, ap, ◌∙◌}
+use native.Mathlib.Omega.{arith}
+use borrow.Author.Rules.{rules}
+use Rattle.images.proofs.put_rows.Goals as goal
+
+pub loop-i-init : goal.loop-i-init
+loop-i-init c = (omega arith, filled_none _ _)
+
+pub loop-i-preserved : goal.loop-i-preserved
+loop-i-preserved c =
+    let l = c.loop-i in
+    (omega arith, c.put_word.ensures ∙ ap (row_in c.args.rows.now l.i) l.invariant.1 ∙ filled_next (row_in c.args.rows.now) l.i c.args.out.now)
