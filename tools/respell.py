@@ -17,9 +17,9 @@ import tempfile
 
 SNAKE = "/opt/rattle/port/notes/2026-11-18-names-are-in-snake-case/snake.py"
 WORD = r"[^\s(){}.;,@\"«»:]+"
-DECLARED = re.compile(rf"^\s*(?:(?:pub|abbrev|unfoldable)\s+)*((?:{WORD}\s+)+)(?:[({{].*?)?:\s")
+DECLARED = re.compile(rf"^\s*(?:(?:pub|abbrev|unfoldable)\s+)*((?:{WORD}\s+)+)(?:[({{].*?)?:(?:\s|$)")
 IMPORT = re.compile(r"^\s*(?:ghost )?use ([\w.]+)\.\{([^}]*)\}", re.M)
-GOAL = re.compile(rf"^({WORD})\s*:\s*\w+\.Need-")
+GOAL = re.compile(rf"^(?:(?:abbrev|pub)\s+)*({WORD})\s*:\s*(?:\w+\.Need-|goal\.)")
 # names that would fall together with another of the same file, and are told apart by hand
 CHOSEN = {
     "handedOut": "lists_handed_out",

@@ -1,16 +1,16 @@
 -- What Bills writes of a case that is decided with an order, bill by bill, and what the sixteen come to together. Assumes nothing.
 use Prim.Native.Nat.{ℕ, ◌+◌, ◌<◌}
 use native.Mathlib.Omega.{arith}
-use mathlib.Core.Path.{◌≡◌, refl, sym, ap, subst, ◌∙◌}
+use mathlib.Core.Path.{◌≡◌, refl, sym, ap, ◌∙◌}
 use mathlib.Core.List.{List, [], ◌∷◌, ◌++◌, map}
 use lib.Dec.{T}
 use lib.IntN.{ℤ, pos, ◌+ℤ◌, ◌-ℤ◌}
 use lib.ListN.{length, get_or, take, drop, length-append, take-append-drop, get_or-append}
 use lib.Seq.{take_at, drop_at, length-take-le}
 use Rattle.model.specs.Lists.{fold, total, up_to}
-use Rattle.model.specs.History.{size, well_formed, is_order, replay}
+use Rattle.model.specs.History.{well_formed, replay}
 use Rattle.model.proofs.Loaded.{Bytes}
-use Rattle.model.proofs.Times.{timed_log_size, well_formed_timed}
+use Rattle.model.proofs.Times.{well_formed_timed}
 use Rattle.model.proofs.Words.{length_up_to, get_or_up_to}
 use Rattle.answers.specs.Clocks.{times_in}
 use Rattle.answers.specs.declared.Stage.TheVariants.{Ordered}

@@ -39,7 +39,7 @@ use Rattle.checker.specs.Calls.{load_refusal, case_after_load, check_refusal, ch
 use Rattle.checker.specs.Encodings.{encode_refusal, encode_list, encode_rows}
 use Rattle.checker.specs.Decisions.{decide_refusal, refused_decision, deciding, list_after_decide}
 use Rattle.checker.specs.Results.{order_refused, table_refused, bills_refused, order_left, table_left, bills_left}
-use Rattle.checker.specs.Demand.{Settles, Demand3}
+use Rattle.checker.specs.Demand.{SettlesWithBills, Demand3, Demand3WithBills}
 use Rattle.checker.specs.Starting.{Indifferent, AsBefore}
 use Rattle.checker.proofs.Chain.{taken, refused}
 use Rattle.checker.proofs.Encodes.{tests_fresh, tests_setting, tests_places, enough_places}
@@ -143,13 +143,13 @@ check_accepts_exactly_the_legal c o e = ap (λ b. b && legal (history_in c) o) (
 
 -- ---- Demand 3, in one piece: `Demand3` in specs/Demand.antt says it. What Encode hands out is the polygraph, and has an acyclic selection exactly
 -- when a legal order exists; Decide says 'no order' exactly where none exists, and else gives the legal order that has, against every other legal
--- one, the lower number at the first place where the two differ; Order and Table then write it and the table which its replay leaves, and Bills the bills of its moves. In all six
+-- one, the lower number at the first place where the two differ; Order and Table then write it and the table which its replay leaves. In all six
 -- settings, whatever was decided before and whatever the lists held, and from the log's bytes, the starting table and the times on.
 
 settled : (c : Case) (w : Window) → load_refusal c w ≡ 0 → (e pruning places : ℕ) → decide_refusal (case_after_load c w) e pruning places ≡ 0
-    → Settles w (deciding (case_after_load c w) e pruning places)
+    → SettlesWithBills w (deciding (case_after_load c w) e pruning places)
 settled c w runs e pruning places r =
-    subst (λ (v : Window). Settles v (deciding (case_after_load c w) e pruning places)) (after_load_holds c w runs) (decision_settles (case_after_load c w) e pruning places r)
+    subst (λ (v : Window). SettlesWithBills v (deciding (case_after_load c w) e pruning places)) (after_load_holds c w runs) (decision_settles (case_after_load c w) e pruning places r)
 
 pub demand_3 : Demand3
 demand_3 = record {
@@ -157,18 +157,22 @@ demand_3 = record {
     handed_out = lists_hold c e pruning ys ws;
     selection = lists_select c e pruning ys ws;
     listed = decide_lists c e pruning ys;
-    settles = decision_settles c e pruning (length ys);
-    again = λ runs e' pruning' places runs'. (same_window c e pruning (length ys) runs, again_settles c e pruning (length ys) runs e' pruning' places runs', again_same c e pruning (length ys) runs e' pruning' places runs');
+    settles = λ runs. (decision_settles c e pruning (length ys) runs).settles;
+    again = λ runs e' pruning' places runs'. (same_window c e pruning (length ys) runs, (again_settles c e pruning (length ys) runs e' pruning' places runs').settles, again_same c e pruning (length ys) runs e' pruning' places runs');
   };
   bytes = λ c w runs. record {
     loaded = load_counts c w runs;
     holds = after_load_holds c w runs;
-    settles = settled c w runs;
+    settles = λ e pruning places r. (settled c w runs e pruning places r).settles;
     values = λ e pruning places r said.
         let n = refusal_none c w runs in
-        every_read_sees_the_value_it_names_lem w.bytes w.clock (taken_timed w n) _ w.starting (taken_long w n) ((settled c w runs e pruning places r).first said).0;
+        every_read_sees_the_value_it_names_lem w.bytes w.clock (taken_timed w n) _ w.starting (taken_long w n) ((settled c w runs e pruning places r).settles.first said).0;
   };
 }
+
+-- and Bills then writes the bills of the moves in that replay
+pub demand_3_with_bills : Demand3WithBills
+demand_3_with_bills = record { whole = decision_settles; again = again_settles; bytes = settled }
 
 -- ---- Card 5: the starting table decides nothing but Table's values and, since card 8, Bills', and 32 zeros give what Load gave before it took a table. `Indifferent` and
 -- `AsBefore` in specs/Starting.antt say it.
@@ -256,7 +260,7 @@ a_case_without_times_as_before c none low =
       ap first_legal is ∙ untimed_first_lem h bare,
     )
 
--- ---- Card 8: Bills. `demand_3` says of it, as of Order and Table, that after Decide it writes the bills of the moves in the replay of the first legal order.
+-- ---- Card 8: Bills. `demand_3_with_bills` says of it, as of Order and Table, that after Decide it writes the bills of the moves in the replay of the first legal order.
 
 -- Its refusals are Table's: 23 for a case that isn't decided, 24 after 'no order', then 25, here for fewer than sixteen places.
 pub bills_test_23_24_25 : (c : Case) (places : ℕ)

@@ -37,7 +37,7 @@ use Rattle.checker.specs.Encodings.{encode_refusal, encode_answer, encode_list, 
 use Rattle.answers.specs.Settings.{setting_refusal}
 use Rattle.checker.specs.Decisions.{decide_refusal, verdict_for, decided_case, decided, refused_decision, deciding, list_after_decide}
 use Rattle.checker.specs.Results.{order_refused, table_refused, bills_refused}
-use Rattle.checker.specs.Demand.{in_lists, lists_handed_out, Serializable, IsFirst, Settles, SameAnswer}
+use Rattle.checker.specs.Demand.{in_lists, lists_handed_out, Serializable, IsFirst, SettlesWithBills, SameAnswer}
 use Rattle.checker.proofs.Holding.{case_timed}
 use Rattle.checker.proofs.Verdicts.{numbers_of}
 use Rattle.checker.proofs.Loads.{refusal_none}
@@ -155,29 +155,33 @@ module _ (c : Case) (n : ℕ) (held : is_fresh (stage_of c) ≡ false) where
   abbrev hc : History
   hc = history_in c
 
-  settles_none : first_legal hc ≡ none → Settles (window_in c) (decided c none n)
+  settles_none : first_legal hc ≡ none → SettlesWithBills (window_in c) (decided c none n)
   unfolding decided order_refused table_refused bills_refused
   settles_none is = record {
-    none = (λ p s. first_none hc is s.0 s.1, λ f. refl);
-    some = (λ p. absurd (order_not_none (sym p)), λ s. absurd (first_none hc is s.0 s.1));
-    first = λ p. absurd (order_not_none (sym p));
-    none_stage = λ p. none_stage c held;
-    some_stage = λ p. absurd (order_not_none (sym p));
-    order = λ out r. absurd (none_not_ordered (sym (none_stage c held) ∙ (refused_none _ _ _ r).ordered));
-    table = λ out r. absurd (none_not_ordered (sym (none_stage c held) ∙ (refused_none _ _ _ r).ordered));
+    settles = record {
+      none = (λ p s. first_none hc is s.0 s.1, λ f. refl);
+      some = (λ p. absurd (order_not_none (sym p)), λ s. absurd (first_none hc is s.0 s.1));
+      first = λ p. absurd (order_not_none (sym p));
+      none_stage = λ p. none_stage c held;
+      some_stage = λ p. absurd (order_not_none (sym p));
+      order = λ out r. absurd (none_not_ordered (sym (none_stage c held) ∙ (refused_none _ _ _ r).ordered));
+      table = λ out r. absurd (none_not_ordered (sym (none_stage c held) ∙ (refused_none _ _ _ r).ordered));
+    };
     bills = λ out r. absurd (none_not_ordered (sym (none_stage c held) ∙ (refused_none _ _ _ r).ordered));
   }
 
-  settles_some : (o : List ℕ) → first_legal hc ≡ some o → Settles (window_in c) (decided c (some o) n)
+  settles_some : (o : List ℕ) → first_legal hc ≡ some o → SettlesWithBills (window_in c) (decided c (some o) n)
   unfolding decided order_refused table_refused bills_refused
   settles_some o is = record {
-    none = (λ p. absurd (order_not_none p), λ f. absurd (f (o, l)));
-    some = (λ p. (o, l), λ s. refl);
-    first = λ p. subst (IsFirst hc) (sym numbers) (first_some hc o is);
-    none_stage = λ p. absurd (order_not_none p);
-    some_stage = λ p. some_stage c o held l;
-    order = λ out r. order_writes c o held l out (room out r) ∙ ap₂ {C = List ℕ} (λ (x : List ℕ) (m : ℕ). x ++ drop m out) (sym numbers) (legal_length hc o l);
-    table = λ out r. table_writes c o held l out (refused_none _ _ _ r).room ∙ ap (λ (x : List ℕ). replay hc c.starting x ++ drop 32 out) (sym numbers);
+    settles = record {
+      none = (λ p. absurd (order_not_none p), λ f. absurd (f (o, l)));
+      some = (λ p. (o, l), λ s. refl);
+      first = λ p. subst (IsFirst hc) (sym numbers) (first_some hc o is);
+      none_stage = λ p. absurd (order_not_none p);
+      some_stage = λ p. some_stage c o held l;
+      order = λ out r. order_writes c o held l out (room out r) ∙ ap₂ {C = List ℕ} (λ (x : List ℕ) (m : ℕ). x ++ drop m out) (sym numbers) (legal_length hc o l);
+      table = λ out r. table_writes c o held l out (refused_none _ _ _ r).room ∙ ap (λ (x : List ℕ). replay hc c.starting x ++ drop 32 out) (sym numbers);
+    };
     bills = λ out r. bills_writes c o held l out (refused_none _ _ _ r).room ∙ ap (λ (x : List ℕ). bills_of (moves hc c.starting x) ++ drop 16 out) (sym numbers);
   }
     where
@@ -192,10 +196,10 @@ module _ (c : Case) (n : ℕ) (held : is_fresh (stage_of c) ≡ false) where
           let fits = (refused_none _ _ _ r).room in
           omega (arith, fits, legal_length hc o l, timed_log_size (contents c) (times_in c.clock), ap transactions_in (decided_contents c (some o)))
 
-  pub decided_settles : Settles (window_in c) (decided c (first_legal hc) n)
+  pub decided_settles : SettlesWithBills (window_in c) (decided c (first_legal hc) n)
   decided_settles = go (first_legal hc) refl
     where
-      go : (x : Option (List ℕ)) → first_legal hc ≡ x → Settles (window_in c) (decided c x n)
+      go : (x : Option (List ℕ)) → first_legal hc ≡ x → SettlesWithBills (window_in c) (decided c x n)
       go none is = settles_none is
       go (some o) is = settles_some o is
 
@@ -205,9 +209,9 @@ module _ (c : Case) (e pruning places : ℕ) (runs : decide_refusal c e pruning 
   unfolding deciding
   decision_is = taken (decide_refusal c e pruning places) _ (refused_decision c (decide_refusal c e pruning places)) runs
 
-  pub decision_settles : Settles (window_in c) (deciding c e pruning places)
+  pub decision_settles : SettlesWithBills (window_in c) (deciding c e pruning places)
   decision_settles =
-      subst (Settles (window_in c)) (sym decision_is) (decided_settles c (encoded_count (history_in c) e pruning) (not_refused c e pruning places runs))
+      subst (SettlesWithBills (window_in c)) (sym decision_is) (decided_settles c (encoded_count (history_in c) e pruning) (not_refused c e pruning places runs))
 
   -- its case is the one with the answer stored, which holds the same window
   pub case_is : (deciding c e pruning places).case ≡ decided_case c (first_legal (history_in c))
@@ -233,9 +237,9 @@ module _ (c : Case) (e pruning places : ℕ) (runs : decide_refusal c e pruning 
     x_is : first_legal (history_in after) ≡ x
     x_is = ap (λ (w : Window). first_legal (window_history w)) (same_window c e pruning places runs)
 
-    pub again_settles : Settles (window_in c) (deciding after e' pruning' places')
+    pub again_settles : SettlesWithBills (window_in c) (deciding after e' pruning' places')
     again_settles =
-        subst (λ (w : Window). Settles w (deciding after e' pruning' places')) (same_window c e pruning places runs) (decision_settles after e' pruning' places' runs')
+        subst (λ (w : Window). SettlesWithBills w (deciding after e' pruning' places')) (same_window c e pruning places runs) (decision_settles after e' pruning' places' runs')
 
     pub again_same : SameAnswer (deciding c e pruning places) (deciding after e' pruning' places')
     unfolding decided

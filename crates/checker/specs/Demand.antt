@@ -1,5 +1,6 @@
 -- Demand 3 in one piece, over what the calls give and leave: what Encode's two lists hold, what Decide answers in every setting and again, and
--- what Order, Table and, since card 8, Bills then write; from the log's bytes, the starting table and the times on. `demand_3` in proofs/Demands.antt proves it. Assumes nothing.
+-- what Order and Table then write; from the log's bytes, the starting table and the times on. `demand_3` in proofs/Demands.antt proves it. What Bills then writes is
+-- `Demand3WithBills`, which `demand_3_with_bills` proves. Assumes nothing.
 use Rattle.std.specs.Prelude.{ℕ, ◌≡◌, ◌⊎◌, ◌↔◌, List, ◌++◌, T, length, take, drop}
 use Rattle.model.specs.declared.Constraint.{Constraint}
 use Rattle.model.specs.History.{History, size, legal, replay, every_read_sees_the_value_it_names}
@@ -37,8 +38,8 @@ abbrev pub IsFirst : History → List ℕ → Type 0
 IsFirst h o = T (legal h o) × ((p : List ℕ) → T (legal h p) → (p ≡ o) ⊎ LexLess o p)
 
 -- A decision d answers the window w: of its history it says 'no order' exactly where no legal order exists, and an order exactly where one does; the order's T
--- numbers are then the first legal order. Its case counts as decided so, and Order, Table and Bills of that case, where they aren't refused,
--- write this order, the table which its replay leaves, from the window's starting table, and the bills of the moves in that replay.
+-- numbers are then the first legal order. Its case counts as decided so, and Order and Table of that case, where they aren't refused, write
+-- this order and the table which its replay leaves, from the window's starting table.
 pub record Settles (w : Window) (d : Decision) : Type 0 where
   pub none : (d.verdict ≡ NoOrderSaid) ↔ (Serializable (window_history w) → ⊥)
   pub some : (d.verdict ≡ Order) ↔ Serializable (window_history w)
@@ -49,6 +50,10 @@ pub record Settles (w : Window) (d : Decision) : Type 0 where
       → order_left d.case out ≡ take (size (window_history w)) d.order ++ drop (size (window_history w)) out
   pub table : (out : List ℕ) → table_refused d.case (length out) ≡ 0
       → table_left d.case out ≡ replay (window_history w) w.starting (take (size (window_history w)) d.order) ++ drop 32 out
+
+-- The same, and Bills of that case, where it isn't refused, writes the bills of the moves in that replay.
+pub record SettlesWithBills (w : Window) (d : Decision) : Type 0 where
+  pub settles : Settles w d
   pub bills : (out : List Bill) → bills_refused d.case (length out) ≡ 0
       → bills_left d.case out ≡ bills_of (moves (window_history w) w.starting (take (size (window_history w)) d.order)) ++ drop 16 out
 
@@ -74,7 +79,7 @@ pub record Whole (c : Case) (e pruning : ℕ) (ys : List Constraint) (ws : List 
       (window_in d.case ≡ window_in c) × Settles (window_in c) d' × SameAnswer d d'
 
 -- From bytes to bytes: after Load, where it isn't refused, the case counts as loaded and holds the window that Load took, the log's bytes, the
--- starting table and the times; so what Decide, Order, Table and Bills then give and write is said of these.
+-- starting table and the times; so what Decide, Order and Table then give and write is said of these.
 pub record FromBytes (c : Case) (w : Window) : Type 0 where
   pub loaded : stage_of (case_after_load c w) ≡ Loaded
   pub holds : window_in (case_after_load c w) ≡ w
@@ -87,3 +92,11 @@ pub record FromBytes (c : Case) (w : Window) : Type 0 where
 pub record Demand3 : Type 0 where
   pub whole : (c : Case) (e pruning : ℕ) (ys : List Constraint) (ws : List ℕ) → Whole c e pruning ys ws
   pub bytes : (c : Case) (w : Window) → load_refusal c w ≡ 0 → FromBytes c w
+
+-- Card 8: what Decide settles, Bills writes: of any case, again after a second Decide in any setting and on any list, and from bytes on.
+pub record Demand3WithBills : Type 0 where
+  pub whole : (c : Case) (e pruning places : ℕ) → decide_refusal c e pruning places ≡ 0 → SettlesWithBills (window_in c) (deciding c e pruning places)
+  pub again : (c : Case) (e pruning places : ℕ) → decide_refusal c e pruning places ≡ 0 → let d = deciding c e pruning places in
+      (e' pruning' places' : ℕ) → decide_refusal d.case e' pruning' places' ≡ 0 → SettlesWithBills (window_in c) (deciding d.case e' pruning' places')
+  pub bytes : (c : Case) (w : Window) → load_refusal c w ≡ 0 → (e pruning places : ℕ) → decide_refusal (case_after_load c w) e pruning places ≡ 0
+      → SettlesWithBills w (deciding (case_after_load c w) e pruning places)

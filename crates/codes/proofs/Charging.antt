@@ -33,7 +33,7 @@ use Rattle.answers.specs.declared.Verdict.{Verdict}
 use Rattle.answers.specs.declared.Verdict.TheVariants.{Order, NoOrder, Refused}
 use Rattle.answers.specs.Settings.{setting_refusal}
 use Rattle.answers.specs.Stages.{is_fresh, refused_by}
-use Rattle.wear.specs.Wear.{Move, moves, mills, cents, travel}
+use Rattle.wear.specs.Wear.{Move, moves, travel}
 use Rattle.wear.specs.Bills.{bill_of, bills_of, no_bill}
 use Rattle.wear.specs.declared.Bill.{Bill}
 use Rattle.wear.proofs.Demands.{travel_fits_31_bits}

@@ -1,5 +1,5 @@
 -- What Load gives of a fresh case: its number is the window's own, and where that is 0 the case holds the window. Assumes nothing.
-use mathlib.Core.Path.{◌≡◌, refl, ap, ◌∙◌}
+use mathlib.Core.Path.{◌≡◌, ap, ◌∙◌}
 use mathlib.Core.Bool.{cond}
 use borrow.Author.Tests.{eq-eqb}
 use Rattle.model.specs.Window.{Window, window_number}

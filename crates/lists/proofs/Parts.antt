@@ -1,6 +1,6 @@
 -- The first places of a list, lent to a call: what they hold before it, and what they hold for the next.
 -- Assumes nothing.
-use Rattle.std.proofs.Common.{◌≡◌, ℕ, ◌-◌, ◌≤◌, ap₂, List, ◌++◌, length, take, replicate, refl, sym, ap, subst, ◌∙◌, arith}
+use Rattle.std.proofs.Common.{◌≡◌, ℕ, ◌-◌, ◌≤◌, ap₂, List, ◌++◌, length, take, replicate, ap, subst, ◌∙◌}
 use Rattle.std.proofs.Math.Seq.{take-append_seam}
 use Rattle.std.proofs.Math.ListN.{length-replicate}
 use Rattle.std.proofs.lemmas.List.{take-replicate}
@@ -36,7 +36,7 @@ pub decided_twice : (first second : Case) (e p encoding pruning : ℕ) (out : Li
 decided_twice first second e p encoding pruning out n mark l l₁ l₂ zs zs₁ d out' is list again long answer list₁ again₁ words = (
   answer ∙ ap (λ (k : ℕ). deciding second encoding pruning k) long,
   words ∙ ap (λ (x : List Constraint). packed n x out)
-  (again₁ ∙ list₁ ∙ ap (λ (x : List Constraint). list_after_decide second encoding pruning x) (again ∙ list ∙ ap (λ (x : List Constraint). list_after_decide first e p x) is)),
+      (again₁ ∙ list₁ ∙ ap (λ (x : List Constraint). list_after_decide second encoding pruning x) (again ∙ list ∙ ap (λ (x : List Constraint). list_after_decide first e p x) is)),
 )
 
 -- as many places as are lent

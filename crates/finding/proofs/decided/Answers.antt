@@ -3,7 +3,6 @@ use Rattle.finding.proofs.Finding.{setting_finds, places_finds, settled_in, answ
 use Rattle.model.specs.Times.{times}
 use Rattle.model.proofs.Times.{timed_log}
 use mathlib.Core.Path.{sym, ◌∙◌}
-use borrow.Author.Rules.{rules}
 use Rattle.finding.proofs.decided.Goals as goal
 
 pub returns-then-setting-ne0 : goal.returns-then-setting-ne0

@@ -1,6 +1,5 @@
 use Rattle.finding.proofs.Finding.{pruned_to, kept_all}
 use native.Mathlib.Omega.{arith}
-use borrow.Author.Rules.{rules}
 use Rattle.finding.proofs.settle.Goals as goal
 
 pub returns-then-pruning-eq1 : goal.returns-then-pruning-eq1

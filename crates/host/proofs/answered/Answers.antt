@@ -1,7 +1,5 @@
-use borrow.Author.Tests.{not-true, not-false}
 use Rattle.model.specs.Window.{window}
 use Rattle.codes.proofs.Deciding.{each, said_refused, said_none, said_order_lem}
-use borrow.Author.Rules.{rules}
 use Rattle.host.proofs.answered.Goals as goal
 
 pub returns-then-number-ne0-clause-result : goal.returns-then-number-ne0-clause-result

@@ -1,15 +1,13 @@
 use native.Mathlib.Omega.{arith}
-use mathlib.Core.Path.{◌≡◌, sym, ap, subst, ◌∙◌}
+use mathlib.Core.Path.{sym, ap, subst, ◌∙◌}
 use lib.Dec.{T}
-use lib.ListN.{length, take, replicate}
-use lib.Seq.{length-take-le}
+use lib.ListN.{take, replicate}
 use Rattle.model.specs.History.{is_order}
 use Rattle.model.specs.Log.{transactions_in, history_of}
 use Rattle.wear.specs.Wear.{moves}
 use Rattle.wear.specs.Bills.{bills_of}
 use Rattle.codes.specs.Images.{values_in}
 use Rattle.codes.proofs.Billing.{bills_refused_lem, bills_short, start_64, log_taken, orders, bills_written}
-use borrow.Author.Rules.{rules}
 use Rattle.host.proofs.beaconcrumb_bills.Goals as goal
 
 pub returns-then-code-ne0-clause-result : goal.returns-then-code-ne0-clause-result

@@ -1,6 +1,5 @@
 use mathlib.Core.Path.{◌∙◌}
 use Rattle.codes.proofs.Strict.{untimed}
-use borrow.Author.Rules.{rules}
 use Rattle.host.proofs.beaconcrumb_decide_from.Goals as goal
 
 pub returns : goal.returns

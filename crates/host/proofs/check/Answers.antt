@@ -6,7 +6,6 @@ use Rattle.model.proofs.Windows.{number_of_log}
 use Rattle.codes.specs.Codes.{judgement_code, check_window}
 use Rattle.codes.proofs.Taking.{refused_number, loads_it, where_taken}
 use Rattle.codes.proofs.Room.{judged_code, checked_code}
-use borrow.Author.Rules.{rules}
 use Rattle.host.proofs.check.Goals as goal
 
 pub returns-then-refused-ne0 : goal.returns-then-refused-ne0

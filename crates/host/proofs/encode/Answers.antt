@@ -9,7 +9,6 @@ use Rattle.answers.proofs.Answering.{setting_either, setting_zero}
 use Rattle.codes.specs.Codes.{sent_code, encode_window, encode_window_after}
 use Rattle.codes.proofs.Room.{encoded_code, encoded_refused, encoded_kept, encoded_list_lem}
 use Rattle.codes.proofs.Taking.{where_refused, refused_number, loads_it, where_taken}
-use borrow.Author.Rules.{rules}
 use Rattle.host.proofs.encode.Goals as goal
 
 pub returns-then-refused-ne0 : goal.returns-then-refused-ne0

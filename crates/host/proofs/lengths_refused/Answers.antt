@@ -1,7 +1,6 @@
 use mathlib.Core.Path.{sym}
 use borrow.Author.Tests.{eq-eqb, ne_eqb}
 use Rattle.codes.specs.Codes.{lengths_number}
-use borrow.Author.Rules.{rules}
 use Rattle.host.proofs.lengths_refused.Goals as goal
 
 pub returns-then-begin-end : goal.returns-then-begin-end

@@ -8,7 +8,6 @@ use Rattle.encoding.specs.Writing.{Planned}
 use Rattle.lender.proofs.Packs.{packed_long}
 use Rattle.lender.proofs.Within.{planned_within}
 use Rattle.codes.proofs.Writing.{Sends, out_short, out_written}
-use borrow.Author.Rules.{rules}
 use Rattle.host.proofs.sent.Goals as goal
 
 pub returns-then-out-left : goal.returns-then-out-left

@@ -1,10 +1,5 @@
-use native.Mathlib.Omega.{arith}
-use mathlib.Core.Path.{◌≡◌, sym, subst}
-use lib.Dec.{T}
-use lib.ListN.{length, take}
-use lib.Seq.{length-take-le}
-use Rattle.model.specs.History.{is_order}
-use Rattle.model.specs.Log.{transactions_in}
+use mathlib.Core.Path.{◌≡◌}
+use lib.ListN.{length}
 use Rattle.model.specs.Window.{window}
 use Rattle.codes.specs.Codes.{ordered_case}
 use Rattle.codes.proofs.Writing.{table_short}

@@ -1,9 +1,6 @@
-use Rattle.codes.proofs.Filling.{word_long, bill_long}
 use Rattle.codes.specs.Images.{word_bytes, twos, bill_bytes}
 use Prim.Native.Nat.{◌+◌}
-use lib.ListN.{length}
 use mathlib.Core.Path.{ap, ◌∙◌}
-use native.Mathlib.Omega.{arith}
 use mir.Syntax.{w32}
 use mir.Facts.{to_z-of_z}
 use borrow.Author.Rules.{rules}

@@ -1,10 +1,7 @@
-use Rattle.codes.proofs.Filling.{filled_none, filled_next, bills_long}
-use Rattle.codes.specs.Images.{filled, bill_in}
-use Prim.Native.Nat.{◌≤◌, ◌-◌}
-use lib.ListN.{length}
-use mathlib.Core.Path.{◌≡◌, ap, ◌∙◌}
+use Rattle.codes.proofs.Filling.{filled_none, filled_next}
+use Rattle.codes.specs.Images.{bill_in}
+use mathlib.Core.Path.{ap, ◌∙◌}
 use native.Mathlib.Omega.{arith}
-use borrow.Author.Rules.{rules}
 use Rattle.images.proofs.put_bills.Goals as goal
 
 pub loop-i-init : goal.loop-i-init

@@ -1,10 +1,7 @@
-use Rattle.codes.proofs.Filling.{word_long, constraint_long}
 use Rattle.codes.specs.Images.{word_bytes, constraint_bytes}
 use Prim.Native.Nat.{◌+◌, ◌%◌}
-use lib.ListN.{length, set, length-set}
+use lib.ListN.{set}
 use mathlib.Core.Path.{ap, ◌∙◌}
-use native.Mathlib.Omega.{arith}
-use borrow.Author.Rules.{rules}
 use Rattle.images.proofs.put_constraint.Goals as goal
 
 pub returns : goal.returns

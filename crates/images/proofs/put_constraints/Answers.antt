@@ -1,10 +1,8 @@
-use Rattle.codes.proofs.Filling.{filled_none, filled_next, words_long}
-use Rattle.codes.specs.Images.{filled, constraint_bytes, words_in}
-use Prim.Native.Nat.{◌+◌, ◌*◌, ◌≤◌, ◌-◌}
-use lib.ListN.{length}
-use mathlib.Core.Path.{◌≡◌, ap, ◌∙◌}
+use Rattle.codes.proofs.Filling.{filled_none, filled_next}
+use Rattle.codes.specs.Images.{constraint_bytes, words_in}
+use Prim.Native.Nat.{◌+◌, ◌*◌}
+use mathlib.Core.Path.{ap, ◌∙◌}
 use native.Mathlib.Omega.{arith}
-use borrow.Author.Rules.{rules}
 use Rattle.images.proofs.put_constraints.Goals as goal
 
 pub loop-i-init : goal.loop-i-init

@@ -1,6 +1,3 @@
-use native.Mathlib.Omega.{arith}
-use Prim.Native.Nat.{◌%◌}
-use lib.ListN.{length-set}
 use Rattle.codes.specs.Images.{pair_bytes}
 use borrow.Author.Rules.{rules}
 use Rattle.images.proofs.put_pair.Goals as goal

@@ -1,10 +1,7 @@
-use Rattle.codes.proofs.Filling.{filled_none, filled_next, values_long}
-use Rattle.codes.specs.Images.{filled, value_in}
-use Prim.Native.Nat.{ℕ, ◌≤◌, ◌-◌}
-use lib.ListN.{length}
-use mathlib.Core.Path.{◌≡◌, ap, ◌∙◌}
+use Rattle.codes.proofs.Filling.{filled_none, filled_next}
+use Rattle.codes.specs.Images.{value_in}
+use mathlib.Core.Path.{ap, ◌∙◌}
 use native.Mathlib.Omega.{arith}
-use borrow.Author.Rules.{rules}
 use Rattle.images.proofs.put_values.Goals as goal
 
 pub loop-i-init : goal.loop-i-init

@@ -1,6 +1,3 @@
-use native.Mathlib.Omega.{arith}
-use Prim.Native.Nat.{◌+◌, ◌/◌, ◌%◌}
-use lib.ListN.{set, length-set}
 use Rattle.codes.specs.Images.{word_bytes}
 use borrow.Author.Rules.{rules}
 use Rattle.images.proofs.put_word.Goals as goal

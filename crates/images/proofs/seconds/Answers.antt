@@ -1,13 +1,11 @@
-use Rattle.graph.proofs.WordLaws.{Filled, filled_start, filled_next}
 use Rattle.codes.specs.Images.{word_at, seconds_in}
 use Rattle.codes.proofs.Filling.{filled_first}
-use Prim.Native.Nat.{◌≤◌, ◌-◌, ◌*◌, ◌/◌}
+use Prim.Native.Nat.{◌*◌, ◌/◌}
 use lib.ListN.{length, take}
 use mathlib.Core.Path.{◌≡◌, sym, ap, ◌∙◌}
 use mathlib.Core.List.{map}
 use Rattle.model.specs.Lists.{up_to}
 use native.Mathlib.Omega.{arith}
-use borrow.Author.Rules.{rules}
 use Rattle.images.proofs.seconds.Goals as goal
 
 pub returns : goal.returns

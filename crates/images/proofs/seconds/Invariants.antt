@@ -1,13 +1,6 @@
-use Rattle.graph.proofs.WordLaws.{Filled, filled_start, filled_next}
-use Rattle.codes.specs.Images.{word_at, seconds_in}
-use Rattle.codes.proofs.Filling.{filled_first}
-use Prim.Native.Nat.{◌≤◌, ◌-◌, ◌*◌, ◌/◌}
-use lib.ListN.{length, take}
-use mathlib.Core.Path.{◌≡◌, sym, ap, ◌∙◌}
-use mathlib.Core.List.{map}
-use Rattle.model.specs.Lists.{up_to}
-use native.Mathlib.Omega.{arith}
-use borrow.Author.Rules.{rules}
+use Rattle.graph.proofs.WordLaws.{Filled}
+use Rattle.codes.specs.Images.{word_at}
+use Prim.Native.Nat.{◌≤◌, ◌-◌, ◌*◌}
 use Rattle.images.proofs.seconds.Given as goal
 
 abbrev pub invariant-loop-i : goal.invariant-loop-i

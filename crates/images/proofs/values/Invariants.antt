@@ -1,11 +1,6 @@
-use Rattle.graph.proofs.WordLaws.{Filled, filled_start, filled_next, filled_end}
+use Rattle.graph.proofs.WordLaws.{Filled}
 use Rattle.model.specs.Log.{pair_at}
-use Rattle.codes.specs.Images.{values_in}
 use Prim.Native.Nat.{◌≤◌, ◌-◌, ◌*◌}
-use lib.ListN.{length}
-use mathlib.Core.Path.{◌≡◌}
-use native.Mathlib.Omega.{arith}
-use borrow.Author.Rules.{rules}
 use Rattle.images.proofs.values.Given as goal
 
 abbrev pub invariant-loop-i : goal.invariant-loop-i

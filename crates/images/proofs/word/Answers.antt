@@ -3,7 +3,6 @@ use Prim.Native.Nat.{◌+◌}
 use mathlib.Core.Path.{◌≡◌, ap}
 use Rattle.model.specs.Log.{byte_at, pair_at}
 use Rattle.codes.specs.Images.{word_at}
-use borrow.Author.Rules.{rules}
 use Rattle.images.proofs.word.Goals as goal
 
 pub returns : goal.returns

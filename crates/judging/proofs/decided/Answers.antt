@@ -1,7 +1,6 @@
 use Rattle.judging.proofs.Outcomes.{text_decided, said}
 use Rattle.report.proofs.Texts.{wrote_as}
 use mathlib.Core.Path.{sym}
-use borrow.Author.Rules.{rules}
 use Rattle.judging.proofs.decided.Goals as goal
 
 pub ordered-requires : goal.ordered-requires

@@ -6,8 +6,7 @@ use Rattle.checker.specs.Decisions.{deciding}
 use Rattle.report.proofs.Texts.{printed}
 use Rattle.report.proofs.Long.{refused_only}
 use native.Mathlib.Omega.{arith}
-use mathlib.Core.Path.{refl, sym, ap, ◌∙◌}
-use borrow.Author.Rules.{rules}
+use mathlib.Core.Path.{sym, ap, ◌∙◌}
 use Rattle.judging.proofs.judge.Goals as goal
 
 pub returns-then-number-ne0 : goal.returns-then-number-ne0

@@ -1,6 +1,5 @@
 use Rattle.judging.proofs.Outcomes.{text_is}
 use Rattle.report.proofs.Texts.{wrote_as}
-use borrow.Author.Rules.{rules}
 use Rattle.judging.proofs.ordered.Goals as goal
 
 pub returns : goal.returns

@@ -3,7 +3,7 @@ use Rattle.std.proofs.Common.{◌≡◌, ℕ, List, get_or, refl, ap, subst, ◌
 use Rattle.model.specs.Lent.{no_constraint}
 use Rattle.search.specs.Constraints.{with_words}
 use Rattle.lender.specs.Packing.{packed}
-use Rattle.lender.proofs.Packs.{room_of, packed_none, packed_next}
+use Rattle.lender.proofs.Packs.{packed_none, packed_next}
 use Rattle.lender.proofs.pack.Goals as goal
 
 pub loop-i-init : goal.loop-i-init

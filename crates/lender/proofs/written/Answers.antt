@@ -1,5 +1,5 @@
 -- The constraints left fit the list and the words, and go out.
-use Rattle.std.proofs.Common.{◌≡◌, ℕ, ◌≤◌, List, sym, ap, subst, ◌∙◌, arith}
+use Rattle.std.proofs.Common.{ℕ, ◌≤◌, List, sym, ap, subst, ◌∙◌, arith}
 use Rattle.model.specs.declared.Constraint.{Constraint}
 use Rattle.lender.specs.Packing.{packed}
 use Rattle.lender.proofs.Places.{places_long}
@@ -18,9 +18,9 @@ pub returns : goal.returns
 returns c =
     let r = c.write-r in
     λ h e plan.
-        (let k = r.ensures h e plan in
-        record {
-          rows_are = k.rows_are;
-          left_is = k.left_is;
-          words_are = c.pack.ensures.1 ∙ ap (λ (l : List Constraint). packed r.result.left l c.args.out.now) k.list_is;
-        })
+    (let k = r.ensures h e plan in
+    record {
+      rows_are = k.rows_are;
+      left_is = k.left_is;
+      words_are = c.pack.ensures.1 ∙ ap (λ (l : List Constraint). packed r.result.left l c.args.out.now) k.list_is;
+    })

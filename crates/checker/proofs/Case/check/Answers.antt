@@ -2,7 +2,6 @@ use Rattle.checker.proofs.Checks.{checking_is, checked_yes}
 use Rattle.answers.proofs.Answering.{judgement_number_lem, judgement_yes_lem}
 use Rattle.answers.specs.Numbers.{judgement_number, judgement_yes}
 use mathlib.Core.Path.{ap, ◌∙◌}
-use borrow.Author.Rules.{rules}
 use Rattle.checker.proofs.Case.check.Goals as goal
 
 pub returns : goal.returns

@@ -5,7 +5,6 @@ use Rattle.checker.specs.Cases.{fresh_case}
 use Rattle.model.specs.Window.{zeros}
 use lib.ListN.{replicate}
 use mathlib.Core.Path.{ap}
-use borrow.Author.Rules.{rules}
 use Rattle.checker.proofs.Case.fresh.Goals as goal
 
 -- the case with nothing loaded and these times

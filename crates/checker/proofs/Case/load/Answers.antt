@@ -1,6 +1,5 @@
 use Rattle.checker.proofs.Loads.{refusal_none, load_refused, load_taken}
 use mathlib.Core.Path.{sym, ◌∙◌}
-use borrow.Author.Rules.{rules}
 use Rattle.checker.proofs.Case.load.Goals as goal
 
 pub returns-then-number-ne0 : goal.returns-then-number-ne0

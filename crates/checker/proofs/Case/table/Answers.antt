@@ -1,6 +1,5 @@
 use Rattle.checker.proofs.Writing.{replying_refused, replying_taken, table_as_was, table_left_lem}
 use mathlib.Core.Path.{sym, ◌∙◌}
-use borrow.Author.Rules.{rules}
 use Rattle.checker.proofs.Case.table.Goals as goal
 
 pub returns-then-number-ne0 : goal.returns-then-number-ne0

@@ -1,5 +1,4 @@
 use Rattle.finding.specs.Finding.{refused_outcome}
-use borrow.Author.Rules.{rules}
 use Rattle.checker.proofs.deciding.nothing.Goals as goal
 
 pub returns : goal.returns

@@ -1,5 +1,4 @@
 use Rattle.checker.proofs.Preparing.{stored_refused, stored_found}
-use borrow.Author.Rules.{rules}
 use Rattle.checker.proofs.deciding.stored.Goals as goal
 
 pub returns-then-number-ne0 : goal.returns-then-number-ne0

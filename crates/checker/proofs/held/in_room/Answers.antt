@@ -1,5 +1,4 @@
 use Rattle.checker.proofs.Holding.{in_room_lem}
-use borrow.Author.Rules.{rules}
 use Rattle.checker.proofs.held.in_room.Goals as goal
 
 pub returns : goal.returns

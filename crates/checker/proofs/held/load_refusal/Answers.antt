@@ -1,6 +1,5 @@
 use Rattle.checker.proofs.Loads.{refusal_fresh, refusal_other}
 use mathlib.Core.Path.{sym, ◌∙◌}
-use borrow.Author.Rules.{rules}
 use Rattle.checker.proofs.held.load_refusal.Goals as goal
 
 pub returns-then-is_fresh : goal.returns-then-is_fresh

@@ -1,5 +1,4 @@
 use Rattle.checker.proofs.Holding.{values_copied}
-use borrow.Author.Rules.{rules}
 use Rattle.checker.proofs.held.values_of.Goals as goal
 
 pub returns : goal.returns

@@ -4,11 +4,10 @@ use Rattle.checker.specs.Cases.{contents}
 use Rattle.model.specs.Log.{transactions_in}
 use Rattle.model.specs.History.{is_order}
 use lib.Seq.{length-take-le}
-use lib.ListN.{length, take}
+use lib.ListN.{take}
 use lib.Dec.{T}
-use mathlib.Core.Path.{◌≡◌, refl, sym, subst, ◌∙◌}
+use mathlib.Core.Path.{refl, sym, subst, ◌∙◌}
 use native.Mathlib.Omega.{arith}
-use borrow.Author.Rules.{rules}
 use Rattle.checker.proofs.results.bills_made.Goals as goal
 
 pub returns-then-number-ne0 : goal.returns-then-number-ne0

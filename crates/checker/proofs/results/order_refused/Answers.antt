@@ -4,7 +4,6 @@ use Rattle.answers.proofs.Holding.{window_fits}
 use Rattle.answers.specs.Stages.{is_fresh}
 use lib.Seq.{length-take-le}
 use mathlib.Core.Path.{sym, ap, ◌∙◌}
-use borrow.Author.Rules.{rules}
 use Rattle.checker.proofs.results.order_refused.Goals as goal
 
 pub returns-then-is_fresh_stage : goal.returns-then-is_fresh_stage

@@ -1,5 +1,4 @@
 use Rattle.checker.proofs.Writing.{table_number}
-use borrow.Author.Rules.{rules}
 use Rattle.checker.proofs.results.table_refused.Goals as goal
 
 pub returns : goal.returns

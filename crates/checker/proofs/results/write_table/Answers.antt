@@ -4,11 +4,9 @@ use Rattle.checker.specs.Cases.{contents}
 use Rattle.model.specs.Log.{transactions_in}
 use Rattle.model.specs.History.{is_order}
 use lib.Seq.{length-take-le}
-use lib.ListN.{length, take}
+use lib.ListN.{take}
 use lib.Dec.{T}
-use mathlib.Core.Path.{◌≡◌, sym, subst}
-use native.Mathlib.Omega.{arith}
-use borrow.Author.Rules.{rules}
+use mathlib.Core.Path.{sym, subst}
 use Rattle.checker.proofs.results.write_table.Goals as goal
 
 pub slice_bounds-bytes-end : goal.slice_bounds-bytes-end
