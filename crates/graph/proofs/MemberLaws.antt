@@ -2,7 +2,7 @@
 --     members_none, members_next     nothing is left of 0; the lowest comes first, and the rest are those of the word without it.        low_below     the lowest is below 32
 --     members_all                    each is a bit of the word.                 members_any      a test of some member
 --     members_are                    of a word that is known by its bits.       Ascending, members_ascend
-use Rattle.std.proofs.Common.{◌≡◌, ℕ, zero, suc, ◌+◌, ◌^◌, ◌<◌, Bool, true, false, cond, not, ◌&&◌, ◌||◌, T, eqb, ◌≢◌, ◌⊎◌, List, [], ◌∷◌, ◌++◌, sym, refl, ap, ◌∙◌, ap₂, ⊎_elim, not-suc-le-zero, arith}
+use Rattle.std.proofs.Common.{◌≡◌, ℕ, zero, suc, ◌^◌, ◌<◌, Bool, true, false, cond, not, ◌&&◌, ◌||◌, T, eqb, ◌≢◌, List, [], ◌∷◌, ◌++◌, sym, refl, ap, ◌∙◌, ap₂, ⊎_elim, not-suc-le-zero, arith}
 use lib.Count.{count_trailing_zeros}
 use Rattle.model.specs.Lists.{any, keep, up_to, bit, All}
 use Rattle.model.proofs.Basics.{same?, true_eq, false_eq, eq-eqb, ne_eqb, All-imp, All-two, All-keep-in, up_to_in}

@@ -1,15 +1,15 @@
 -- The words that the loops make are those of the model's definitions; closed words. Assumes nothing.
-use Rattle.std.proofs.Common.{◌≡◌, ℕ, zero, suc, ◌+◌, ◌-◌, ◌*◌, ◌%◌, ◌^◌, ◌<◌, ◌≤◌, Bool, true, false, cond, not, ◌&&◌, ◌||◌, T, eqb, ltb, ◌≢◌, ◌⊎◌, List, [], ◌∷◌, map, length, get_or, sym, refl, ap, ◌∙◌, subst, ap₂, inl, inr, ⊎_elim, mod-eq_of_lt, suc-add, one-mul, zero-add, arith, eqb→eq, ltb→lt, nltb→le, ext_get_or, shl_exact}
+use Rattle.std.proofs.Common.{◌≡◌, ℕ, zero, suc, ◌+◌, ◌-◌, ◌*◌, ◌%◌, ◌^◌, ◌<◌, ◌≤◌, Bool, true, false, cond, not, ◌&&◌, ◌||◌, T, eqb, ltb, ◌≢◌, ◌⊎◌, List, map, length, get_or, sym, refl, ap, ◌∙◌, subst, ap₂, inl, inr, ⊎_elim, suc-add, one-mul, zero-add, arith, eqb→eq, ltb→lt, nltb→le, ext_get_or, shl_exact}
 use lib.Bits.{bit_and, bit_or, or_lt, and_le_l}
 use lib.Pow.{pow-lt}
 use lib.ListN.{get_or-eq_default}
 use Rattle.model.specs.Lists.{any, up_to, bit, word_of}
-use Rattle.model.specs.Polygraph.{row, has, with_side, through, reach, closed_off, Way, Acyclic}
+use Rattle.model.specs.Polygraph.{row, has, with_side, through, reach, closed_off, Way}
 use Rattle.model.proofs.Basics.{eq-T, iff_eq, and_l, and_r, and_in, or_out, or_l, or_r, eq-eqb, decide, clash, true_eq, false_eq, not_intro, any_up_to_out, any_up_to_in, same?}
-use Rattle.model.proofs.Words.{word_lt, get_or_up_to, length_up_to, bit_rows, rows_small}
+use Rattle.model.proofs.Words.{word_lt, get_or_up_to, length_up_to, rows_small}
 use Rattle.model.proofs.Masks.{bit_or_lem, bit_and_lem, bit_one, bit_none, word_bits, same_bits, side_row, through_row, length_through}
 use Rattle.model.specs.RowWords.{Tidy, cyclic}
-use Rattle.model.proofs.Reach.{through_out, through_old, rounds, rounds_suc, rounds_all, rounds_way, way_join, way_small, way_reach, reach_way, reach_old}
+use Rattle.model.proofs.Reach.{through_out, through_old, rounds, rounds_suc, rounds_all, rounds_way, way_join, way_reach, reach_way, reach_old}
 use Rattle.model.proofs.Loops.{any_bit, closed_mask}
 use Rattle.model.proofs.Closed.{reach_side}
 use Rattle.graph.specs.Bodies.{pointed, absorbed, extended_row}

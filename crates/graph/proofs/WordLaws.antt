@@ -1,11 +1,10 @@
 -- Words as the code makes them: without a bit, the lowest bit, words in one, and tables filled place by place. Assumes nothing.
-use Rattle.std.proofs.Common.{◌≡◌, ℕ, zero, suc, ◌+◌, ◌-◌, ◌*◌, ◌/◌, ◌%◌, ◌^◌, ◌<◌, ◌≤◌, min, Bool, true, false, cond, not, ◌&&◌, ◌||◌, T, eqb, ltb, ◌≢◌, ◌⊎◌, List, [], ◌∷◌, ◌++◌, map, length, get_or, set, sym, refl, ap, ◌∙◌, subst, ap₂, inl, inr, ⊎_elim, not-suc-le-zero, mod-lt, zero-lt-suc, add-one, arith, eqb→eq, length-set, get_or-set_other, get_or-set_same, ext_get_or, pow_pos}
-use mathlib.Core.Bool.{or-false}
+use Rattle.std.proofs.Common.{◌≡◌, ℕ, zero, suc, ◌+◌, ◌-◌, ◌*◌, ◌/◌, ◌%◌, ◌^◌, ◌<◌, ◌≤◌, min, Bool, true, false, cond, not, ◌&&◌, ◌||◌, eqb, ◌≢◌, List, [], ◌∷◌, ◌++◌, map, length, get_or, set, sym, refl, ap, ◌∙◌, ap₂, ⊎_elim, not-suc-le-zero, mod-lt, zero-lt-suc, add-one, arith, length-set, get_or-set_other, get_or-set_same, ext_get_or, pow_pos}
 use lib.Dec.{eqb-suc-suc, eqb-suc-zero}
 use lib.Bits.{bit_and, bit_or, bit_xor, differ, xor_step, and_step, and_self, or_lt, xor_lt, and_le_l}
 use lib.Count.{count_trailing_zeros, under}
-use Rattle.model.specs.Lists.{any, first_or, up_to, bit, word_of}
-use Rattle.model.proofs.Basics.{same?, decide, true_eq, false_eq, eq-T, eq-eqb, ne_eqb}
+use Rattle.model.specs.Lists.{any, first_or, up_to, bit}
+use Rattle.model.proofs.Basics.{same?}
 use Rattle.model.proofs.Words.{length_up_to, get_or_up_to}
 use Rattle.model.proofs.Masks.{bit_low, bit_half, bit_and_lem, bit_or_lem, bit_one, bit_none}
 use Rattle.model.proofs.Loops.{any_snoc}

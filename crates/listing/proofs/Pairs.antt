@@ -1,7 +1,7 @@
 -- Each two of an ascending list. Assumes nothing.
 --     pairs_map, pairs_on        a function of each.        pairs_each      of each one with those above it: how the model lists them
 --     two_not_few      two members are not few.        pairs_idle      a list without two has no pairs
-use Prim.Native.Nat.{ℕ, ◌+◌, ◌≤◌, ◌<◌}
+use Prim.Native.Nat.{ℕ, ◌≤◌, ◌<◌}
 use native.Mathlib.Omega.{arith}
 use mathlib.Core.Path.{◌≡◌, refl, sym, ap, ap₂, ◌∙◌}
 use mathlib.Core.Bool.{Bool, true, false, cond, ◌&&◌, ◌||◌}

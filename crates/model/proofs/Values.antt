@@ -8,15 +8,15 @@
 use Prim.Native.Nat.{ℕ, ◌≤◌, ◌<◌}
 use native.Mathlib.Omega.{arith}
 use mathlib.Core.Path.{◌≡◌, refl, sym, ap, subst, ◌∙◌}
-use mathlib.Core.Logic.{◌⊎◌, ⊎_elim, ◌↔◌, ◌≢◌}
+use mathlib.Core.Logic.{⊎_elim, ◌↔◌, ◌≢◌}
 use mathlib.Core.Bool.{Bool, true, false, not, cond, ◌&&◌, ◌||◌}
 use mathlib.Core.List.{List, [], ◌∷◌}
 use lib.Dec.{T, eqb, eqb→eq}
 use lib.ListN.{length, get_or, set, length-set}
 use lib.Seq.{get_or-set_same, get_or-set_other}
-use Rattle.model.specs.Lists.{All, implies, all, any, keep, keep_after, all_after, first_or, fold, up_to, up_to_element}
-use Rattle.model.specs.History.{Operation, History, start, size, operations_of, is_read, is_write, is_read_back, outward, keys_once, good_keys, good_operation, writes, last_writer, sees, every_read_names_what_it_sees, stored, replay, left_at, value_written, value_of, value_seen, every_read_sees_its_writers_value, every_read_sees_the_value_it_names}
-use Rattle.model.proofs.Basics.{true_eq, false_eq, eq-eqb, ne_eqb, same?, and_l, and_r, and_in, or_l, or_r, or_out, implies_in, implies_out, not_intro, all_up_to_in, all_up_to_out, clash}
+use Rattle.model.specs.Lists.{All, implies, all, any, keep, keep_after, all_after, first_or, fold, up_to_element}
+use Rattle.model.specs.History.{Operation, History, start, size, operations_of, is_read, is_write, is_read_back, outward, keys_once, good_keys, writes, last_writer, sees, every_read_names_what_it_sees, stored, replay, left_at, value_written, value_of, value_seen, every_read_sees_its_writers_value, every_read_sees_the_value_it_names}
+use Rattle.model.proofs.Basics.{true_eq, false_eq, eq-eqb, ne_eqb, same?, and_l, and_r, and_in, or_l, or_r, or_out, implies_in, implies_out, all_up_to_in, all_up_to_out}
 use Rattle.model.proofs.Legal.{writes_small}
 use Rattle.model.proofs.ReadBacks.{keep_out, written}
 

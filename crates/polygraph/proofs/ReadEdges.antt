@@ -10,7 +10,7 @@ use lib.Bits.{bit_and, bit_or}
 use lib.Count.{count_trailing_zeros}
 use lib.Pow.{pow-lt}
 use lib.ListN.{get_or, take, replicate, length-replicate}
-use Rattle.model.specs.Lists.{any, all, fold, up_to, bit, word_of}
+use Rattle.model.specs.Lists.{any, fold, up_to, bit, word_of}
 use Rattle.model.specs.History.{History, start, size, is_read, outward, writes, reads}
 use Rattle.model.specs.Polygraph.{good_read, next_of_cabinet, start_read, bad_read, successor, chain_edge, edge, rows}
 use Rattle.model.specs.Untimed.{untimed_edge}

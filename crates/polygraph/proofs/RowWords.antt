@@ -2,7 +2,7 @@
 use Prim.Native.Nat.{ℕ, ◌+◌, ◌-◌, ◌*◌, ◌/◌, ◌%◌, ◌^◌, ◌≤◌, ◌<◌}
 use native.Mathlib.Omega.{arith}
 use mathlib.Core.Path.{◌≡◌, refl, sym, ap, ap₂, subst, ◌∙◌}
-use mathlib.Core.Logic.{◌⊎◌, ⊎_elim, ◌≢◌}
+use mathlib.Core.Logic.{⊎_elim, ◌≢◌}
 use mathlib.Core.Bool.{Bool, true, false, not, cond, ◌&&◌}
 use mathlib.Core.List.{List, map}
 use lib.Dec.{eqb, ltb, eqb→eq, ltb→lt, lt→ltb}
@@ -14,8 +14,6 @@ use borrow.Author.Tests.{lt-ltb, le-ltb}
 use Rattle.model.specs.Lists.{up_to, bit, word_of}
 use Rattle.model.specs.History.{History, start, size, writes, reads}
 use Rattle.model.specs.Polygraph.{good_read, bad_read, successor}
-use Rattle.model.specs.Log.{transactions_in, load_number, history_of}
-use Rattle.model.proofs.Loaded.{history_size}
 use Rattle.model.proofs.Basics.{same?, not_intro, true_eq, false_eq, iff_eq, eq-T, eq-eqb, ne_eqb, eqb_comm, and_l, and_r, and_in}
 use Rattle.model.proofs.Words.{bit_word, word_lt, length_up_to, get_or_up_to, bit_rows}
 use Rattle.model.proofs.Masks.{bit_and_lem, bit_none}
@@ -23,7 +21,6 @@ use Rattle.model.proofs.Legal.{writes_small}
 use Rattle.polygraph.specs.Tables.{writers_of, read_mark, read_marks_of}
 use Rattle.polygraph.specs.Edges.{next_by, successors_of, successors_by}
 use Rattle.graph.proofs.WordLaws.{lowest, first_none, first_is}
-use Rattle.polygraph.proofs.Filling.{few}
 
 pub map_on : {A : Type 0} (d : A) (f g : ℕ → A) (n : ℕ) → ((i : ℕ) → i < n → f i ≡ g i) → map f (up_to n) ≡ map g (up_to n)
 map_on d f g n e =

@@ -11,7 +11,7 @@ use lib.Bits.{bit_or}
 use lib.Dec.{T, ltb, eqb→eq, ltb→lt, lt→ltb, nltb→le}
 use lib.ListN.{length, get_or, take}
 use lib.Seq.{take-suc, take_all}
-use Rattle.model.specs.Lists.{All, all, count, bit}
+use Rattle.model.specs.Lists.{All, count, bit}
 use Rattle.model.specs.History.{is_order}
 use Rattle.model.proofs.Basics.{decide, clash, not_intro, and_l, and_r, and_in, or_out, or_l, or_r, true_eq, false_eq, eq-eqb, same?, All-app, All-right}
 use Rattle.model.proofs.Masks.{bit_or_lem, bit_one, bit_none}

@@ -1,6 +1,6 @@
 -- What `first_order` answers for a history: the first legal order, or none, in all six settings. Assumes nothing.
 -- For the caller: `asked_of` meets what the call requires, and `answer_first` turns what it ensures into the model's words.
-use Prim.Native.Nat.{ℕ, zero, suc, ◌+◌, ◌*◌, ◌-◌, ◌≤◌, ◌<◌}
+use Prim.Native.Nat.{ℕ, suc, ◌+◌, ◌*◌, ◌-◌, ◌≤◌, ◌<◌}
 use native.Mathlib.Omega.{arith}
 use mathlib.Core.Path.{◌≡◌, refl, sym, ap, subst, ◌∙◌}
 use mathlib.Core.Bool.{Bool, true, false, cond}

@@ -3,11 +3,11 @@
 use Prim.Native.Nat.{ℕ}
 use mathlib.Core.Path.{◌≡◌, refl, sym, ap, subst, ◌∙◌}
 use mathlib.Core.Logic.{◌≢◌, ⊎_elim}
-use mathlib.Core.Bool.{Bool, true, false, not}
+use mathlib.Core.Bool.{Bool, true, false}
 use mathlib.Core.List.{List}
 use lib.Dec.{T}
 use Rattle.model.specs.declared.Constraint.{Constraint}
-use Rattle.model.proofs.Basics.{clash, decide, same?, eq-T}
+use Rattle.model.proofs.Basics.{clash, decide, same?}
 use Rattle.search.specs.Constraints.{con_at, is_open, Dropped}
 use Rattle.search.specs.Orders.{opposed, Lighter}
 use Rattle.search.proofs.Opens.{drop_fewer, drop_stays}

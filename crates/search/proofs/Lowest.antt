@@ -3,7 +3,6 @@
 use Prim.Native.Nat.{ℕ, ◌+◌, ◌^◌, ◌≤◌, ◌<◌}
 use native.Mathlib.Omega.{arith}
 use mathlib.Core.Path.{◌≡◌, refl, sym, ap, subst, ◌∙◌}
-use mathlib.Core.Logic.{⊎_elim, ◌≢◌}
 use mathlib.Core.Bool.{Bool, true, false, not, ◌&&◌}
 use mathlib.Core.List.{List, [], map}
 use lib.Dec.{T, eqb}
@@ -19,7 +18,7 @@ use Rattle.model.proofs.Words.{length_up_to, get_or_up_to}
 use Rattle.graph.proofs.Rows.{bit_below}
 use Rattle.search.specs.Constraints.{con_at, is_open}
 use Rattle.search.specs.Steps.{PartialOrder, Narrowed}
-use Rattle.search.specs.Orders.{Sure, Under, led_row, Placed, Picked, Begins, Solution, First}
+use Rattle.search.specs.Orders.{Sure, Under, led_row, Placed, Picked, Begins, First}
 use Rattle.search.proofs.Leads.{some_under, closed_small, placed, placed_same}
 use Rattle.search.proofs.Picks.{Picking, picking_none, candidate, picked_free}
 use Rattle.search.proofs.Fills.{Filling, filling_none, filling_open, filling_narrowed, filling_end}

@@ -16,7 +16,7 @@ use Rattle.model.specs.declared.Constraint.{Constraint}
 use Rattle.model.specs.RowWords.{Tidy, held}
 use Rattle.model.proofs.Basics.{clash, decide, same?, eq-T, false_eq, iff_eq, and_l, and_r, and_in, ne_eqb, not_intro}
 use Rattle.model.proofs.Masks.{bit_none}
-use Rattle.model.proofs.Closed.{fewer, fewer_at}
+use Rattle.model.proofs.Closed.{fewer_at}
 use Rattle.search.specs.Constraints.{con_at, is_open, open_count, Fit, Dropped}
 use Rattle.search.specs.Steps.{PartialOrder, shut, Last, Taken, Grown, Narrowed, PrunedState, Turning, NextOpen, HitIn, NextHit, NextChoice}
 use Rattle.search.proofs.Counts.{turn_first, turn_hit, turn_again}

@@ -1,5 +1,5 @@
 -- What the search for the first order promises. `c` are row words, `l` the words of the open constraints, `w` the words of the n constraints, `set` the numbers that are not placed. Assumes nothing.
-use Rattle.std.specs.Prelude.{ℕ, ◌+◌, ◌^◌, ◌<◌, ◌≤◌, ◌≡◌, ◌⊎◌, ◌≢◌, Bool, true, false, not, cond, ◌&&◌, List, ◌++◌, T, eqb, length, get_or, take, replicate}
+use Rattle.std.specs.Prelude.{ℕ, ◌^◌, ◌<◌, ◌≤◌, ◌≡◌, ◌⊎◌, ◌≢◌, Bool, true, false, not, cond, ◌&&◌, List, ◌++◌, T, eqb, length, get_or, take, replicate}
 use Rattle.std.specs.Int.Bits.{bit_or}
 use Rattle.model.specs.Lists.{bit, count}
 use Rattle.model.specs.History.{is_order}

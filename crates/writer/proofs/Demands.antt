@@ -46,16 +46,16 @@ module _ (n : Notes) where
   number_given cabinet kind key argument room = (refl, refl, refl, refl)
 
   -- 32 when one is open; 33 a 33rd transaction
-  pub numbers-of-open :
+  pub numbers_of_open :
       (is_open n ≡ true → open_refusal n ≡ 32) × (is_open n ≡ false → 32 ≤ size (held n) → open_refusal n ≡ 33) × (is_open n ≡ false → size (held n) < 32 → open_refusal n ≡ 0)
-  numbers-of-open = (open_32 n, open_33 n, open_0 n)
+  numbers_of_open = (open_32 n, open_33 n, open_0 n)
 
   -- 31 when none is open; 33 a 257th note. Notes beyond 32 transactions, which no calls from fresh notes make, have no room for a note.
-  pub numbers-of-note :
+  pub numbers_of_note :
       (is_open n ≡ false → note_refusal n ≡ 31) × (is_open n ≡ true → 32 < size (held n) → note_refusal n ≡ 33)
       × (is_open n ≡ true → 256 ≤ operation_count (held n) → note_refusal n ≡ 33)
       × (is_open n ≡ true → size (held n) ≤ 32 → operation_count (held n) < 256 → note_refusal n ≡ 0)
-  numbers-of-note = (note_31 n, note_beyond n, note_33 n, note_0 n)
+  numbers_of_note = (note_31 n, note_beyond n, note_33 n, note_0 n)
 
   -- 31 when none is open
   pub numbers_of_close : (is_open n ≡ false → close_refusal n ≡ 31) × (is_open n ≡ true → close_refusal n ≡ 0)

@@ -1,7 +1,5 @@
 use Rattle.decision.proofs.Decision.{asked, answered}
-use mathlib.Core.Path.{sym}
 use native.Mathlib.Omega.{arith}
-use borrow.Author.Rules.{rules}
 use Rattle.decision.proofs.first_of_few.Goals as goal
 
 pub first_closed-requires : goal.first_closed-requires

@@ -1,7 +1,5 @@
 use Rattle.decision.proofs.Decision.{settled_few, asked, answered}
-use mathlib.Core.Path.{sym}
 use native.Mathlib.Omega.{arith}
-use borrow.Author.Rules.{rules}
 use Rattle.decision.proofs.first_of_many.Goals as goal
 
 pub words-requires : goal.words-requires

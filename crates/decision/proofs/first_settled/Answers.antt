@@ -1,6 +1,5 @@
 use Rattle.decision.proofs.Decision.{settled_partial, cyclic_answer}
 use native.Mathlib.Omega.{arith}
-use borrow.Author.Rules.{rules}
 use Rattle.decision.proofs.first_settled.Goals as goal
 
 pub returns-then-cyclic : goal.returns-then-cyclic

@@ -1,9 +1,7 @@
-use Rattle.decision.proofs.Putting.{Sofar, sofar_none, sofar_next, sofar_all}
+use Rattle.decision.proofs.Putting.{sofar_none, sofar_next, sofar_all}
 use lib.ListN.{length}
-use Prim.Native.Nat.{◌≤◌, ◌-◌}
 use mathlib.Core.Path.{refl}
 use native.Mathlib.Omega.{arith}
-use borrow.Author.Rules.{rules}
 use Rattle.decision.proofs.words.Goals as goal
 
 pub loop-i-init : goal.loop-i-init

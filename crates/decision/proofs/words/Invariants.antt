@@ -1,9 +1,6 @@
-use Rattle.decision.proofs.Putting.{Sofar, sofar_none, sofar_next, sofar_all}
+use Rattle.decision.proofs.Putting.{Sofar}
 use lib.ListN.{length}
 use Prim.Native.Nat.{◌≤◌, ◌-◌}
-use mathlib.Core.Path.{refl}
-use native.Mathlib.Omega.{arith}
-use borrow.Author.Rules.{rules}
 use Rattle.decision.proofs.words.Given as goal
 
 abbrev pub invariant-loop-i : goal.invariant-loop-i

@@ -1,6 +1,5 @@
 use native.Mathlib.Omega.{arith}
 use Rattle.encoding.proofs.Laws.{room_bodies, by_bodies, room_runs, by_runs}
-use borrow.Author.Rules.{rules}
 use Rattle.encoding.proofs.choose.Goals as goal
 
 pub table-requires : goal.table-requires

@@ -1,4 +1,4 @@
-use Rattle.std.proofs.Common.{sym, ap, ◌∙◌, rules}
+use Rattle.std.proofs.Common.{sym, ◌∙◌}
 use Rattle.graph.specs.Bodies.{absorbed}
 use Rattle.graph.proofs.absorb.Goals as goal
 

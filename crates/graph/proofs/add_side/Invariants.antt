@@ -1,8 +1,6 @@
-use Rattle.std.proofs.Common.{◌≡◌, ℕ, ◌-◌, ◌^◌, ◌<◌, ◌≤◌, get_or, ap, ◌∙◌, arith, w32, Fits, rules}
-use Rattle.model.specs.Polygraph.{with_side}
+use Rattle.std.proofs.Common.{◌-◌}
 use Rattle.graph.specs.Bodies.{pointed}
-use Rattle.graph.proofs.Sweeps.{Swept, swept_start, swept_next, swept_end}
-use Rattle.graph.proofs.Rows.{point_is}
+use Rattle.graph.proofs.Sweeps.{Swept}
 use Rattle.graph.proofs.add_side.Given as goal
 
 abbrev pub invariant-loop-i : goal.invariant-loop-i

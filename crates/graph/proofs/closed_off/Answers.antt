@@ -1,6 +1,6 @@
 use Rattle.graph.proofs.Rows.{closed_off_is}
 use lib.Bits.{bit_and}
-use Rattle.std.proofs.Common.{ℕ, not, eqb, ap, ◌∙◌, rules}
+use Rattle.std.proofs.Common.{ℕ, not, eqb, ap, ◌∙◌}
 use Rattle.graph.proofs.closed_off.Goals as goal
 
 pub returns : goal.returns

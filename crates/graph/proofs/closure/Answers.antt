@@ -1,6 +1,4 @@
-use Rattle.std.proofs.Common.{◌≡◌, ℕ, ◌-◌, ◌^◌, ◌<◌, ◌≤◌, get_or, sym, refl, ap, ◌∙◌, add-one, arith, w32, Fits, rules}
-use Rattle.model.specs.Polygraph.{through}
-use Rattle.model.proofs.Reach.{rounds, rounds_suc}
+use Rattle.std.proofs.Common.{get_or, ◌∙◌, arith, w32, Fits, rules}
 use Rattle.graph.proofs.Rows.{rounds_below}
 use Rattle.graph.proofs.closure.Goals as goal
 

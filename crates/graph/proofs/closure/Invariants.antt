@@ -1,7 +1,5 @@
-use Rattle.std.proofs.Common.{◌≡◌, ℕ, ◌-◌, ◌^◌, ◌<◌, ◌≤◌, get_or, sym, refl, ap, ◌∙◌, add-one, arith, w32, Fits, rules}
-use Rattle.model.specs.Polygraph.{through}
-use Rattle.model.proofs.Reach.{rounds, rounds_suc}
-use Rattle.graph.proofs.Rows.{rounds_below}
+use Rattle.std.proofs.Common.{◌≡◌, ◌-◌, ◌≤◌}
+use Rattle.model.proofs.Reach.{rounds}
 use Rattle.graph.proofs.closure.Given as goal
 
 abbrev pub invariant-loop-k : goal.invariant-loop-k

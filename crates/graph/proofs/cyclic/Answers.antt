@@ -1,6 +1,5 @@
-use Rattle.std.proofs.Common.{◌≡◌, ℕ, ◌-◌, ◌<◌, ◌≤◌, false, get_or, sym, ap, ◌∙◌, arith, rules}
-use Rattle.model.specs.Lists.{bit}
-use Rattle.graph.proofs.Rows.{cyclic_yes, cyclic_no, none_next}
+use Rattle.std.proofs.Common.{sym, ◌∙◌, arith}
+use Rattle.graph.proofs.Rows.{cyclic_yes, cyclic_no}
 use Rattle.graph.proofs.cyclic.Goals as goal
 
 pub returns-then-has : goal.returns-then-has

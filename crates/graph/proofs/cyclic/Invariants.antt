@@ -1,6 +1,5 @@
-use Rattle.std.proofs.Common.{◌≡◌, ℕ, ◌-◌, ◌<◌, ◌≤◌, false, get_or, sym, ap, ◌∙◌, arith, rules}
+use Rattle.std.proofs.Common.{◌≡◌, ℕ, ◌-◌, ◌<◌, ◌≤◌, false, get_or}
 use Rattle.model.specs.Lists.{bit}
-use Rattle.graph.proofs.Rows.{cyclic_yes, cyclic_no, none_next}
 use Rattle.graph.proofs.cyclic.Given as goal
 
 abbrev pub invariant-loop-u : goal.invariant-loop-u

@@ -1,4 +1,4 @@
-use Rattle.std.proofs.Common.{◌≡◌, ℕ, Bool, true, false, eqb, sym, ap, ◌∙◌, rules, eq-eqb, ne_eqb}
+use Rattle.std.proofs.Common.{ℕ, eqb, sym, ap, ◌∙◌, eq-eqb, ne_eqb}
 use lib.Bits.{bit_and}
 use Rattle.graph.specs.Bodies.{extended_row}
 use Rattle.graph.proofs.extend_row.Goals as goal

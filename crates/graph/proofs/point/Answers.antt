@@ -1,4 +1,4 @@
-use Rattle.std.proofs.Common.{sym, ◌∙◌, rules}
+use Rattle.std.proofs.Common.{sym, ◌∙◌}
 use Rattle.graph.specs.Bodies.{pointed}
 use Rattle.graph.proofs.point.Goals as goal
 

@@ -1,9 +1,5 @@
-use Rattle.std.proofs.Common.{◌≡◌, ℕ, ◌^◌, ◌<◌, List, sym, ◌∙◌, arith, rules}
-use borrow.Author.Tests.{not-true, not-false}
-use Rattle.model.specs.RowWords.{side_in}
-use Rattle.graph.proofs.WordLaws.{lowest}
-use Rattle.graph.proofs.SideLaws.{sources_in, side_start, side_next, side_missing, side_end}
-use Rattle.graph.proofs.side_held.Invariants.{Left}
+use Rattle.std.proofs.Common.{sym, ◌∙◌, arith}
+use Rattle.graph.proofs.SideLaws.{side_start, side_next, side_missing, side_end}
 use Rattle.graph.proofs.side_held.Goals as goal
 
 pub loop-m-init : goal.loop-m-init

@@ -1,8 +1,6 @@
-use Rattle.std.proofs.Common.{◌≡◌, ℕ, ◌^◌, ◌<◌, List, sym, ◌∙◌, arith, rules}
-use borrow.Author.Tests.{not-true, not-false}
+use Rattle.std.proofs.Common.{◌≡◌, ℕ, ◌^◌, ◌<◌, List}
 use Rattle.model.specs.RowWords.{side_in}
-use Rattle.graph.proofs.WordLaws.{lowest}
-use Rattle.graph.proofs.SideLaws.{sources_in, side_start, side_next, side_missing, side_end}
+use Rattle.graph.proofs.SideLaws.{sources_in}
 use Rattle.graph.proofs.side_held.Given as goal
 
 pub record Left (rows : List ℕ) (from to m : ℕ) : Type 0 where

@@ -1,7 +1,6 @@
-use Rattle.std.proofs.Common.{◌≡◌, ℕ, ◌-◌, ◌^◌, ◌<◌, ◌≤◌, length, get_or, ap, ◌∙◌, arith, w32, Fits, rules}
+use Rattle.std.proofs.Common.{ℕ, ◌^◌, ◌<◌, get_or, arith, w32, Fits, rules}
 use Rattle.model.specs.Polygraph.{through}
-use Rattle.graph.specs.Bodies.{absorbed}
-use Rattle.graph.proofs.Sweeps.{Swept, swept_start, swept_next, swept_end}
+use Rattle.graph.proofs.Sweeps.{swept_end}
 use Rattle.graph.proofs.Rows.{absorb_is}
 use Rattle.graph.proofs.stage.Goals as goal
 

@@ -1,8 +1,8 @@
-use Rattle.std.proofs.Common.{◌≡◌, ℕ, ◌-◌, ◌^◌, ◌≤◌, List, length, get_or, ap, ◌∙◌, arith, rules}
+use Rattle.std.proofs.Common.{ℕ, ◌^◌, List, length, get_or, ap, ◌∙◌, arith}
 use lib.Bits.{bit_or}
 use Rattle.model.specs.Polygraph.{with_side, reach}
 use Rattle.graph.specs.Bodies.{extended_row}
-use Rattle.graph.proofs.Sweeps.{Swept, swept_start, swept_next, swept_end}
+use Rattle.graph.proofs.Sweeps.{swept_end}
 use Rattle.graph.proofs.Rows.{extend_word, rows_map, reach_length}
 use Rattle.graph.proofs.take.Goals as goal
 

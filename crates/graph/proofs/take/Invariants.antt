@@ -1,9 +1,6 @@
-use Rattle.std.proofs.Common.{◌≡◌, ℕ, ◌-◌, ◌^◌, ◌≤◌, List, length, get_or, ap, ◌∙◌, arith, rules}
-use lib.Bits.{bit_or}
-use Rattle.model.specs.Polygraph.{with_side, reach}
+use Rattle.std.proofs.Common.{◌≡◌, ◌-◌, ◌≤◌, length}
 use Rattle.graph.specs.Bodies.{extended_row}
-use Rattle.graph.proofs.Sweeps.{Swept, swept_start, swept_next, swept_end}
-use Rattle.graph.proofs.Rows.{extend_word, rows_map, reach_length}
+use Rattle.graph.proofs.Sweeps.{Swept}
 use Rattle.graph.proofs.take.Given as goal
 
 abbrev pub invariant-loop-i : goal.invariant-loop-i

@@ -1,4 +1,4 @@
-use Rattle.std.proofs.Common.{◌≡◌, ℕ, ◌+◌, ◌-◌, ◌^◌, ◌<◌, ◌≤◌, get_or, subst, arith, w32, Fits, rules}
+use Rattle.std.proofs.Common.{◌≡◌, ℕ, ◌+◌, ◌-◌, ◌^◌, ◌<◌, get_or, subst, arith, w32, Fits, rules}
 use Rattle.graph.specs.Leaving.{LeavesBelow}
 use Rattle.graph.proofs.Rows.{tidy, leaves_fewer}
 use Rattle.graph.proofs.top.Goals as goal

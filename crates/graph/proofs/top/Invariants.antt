@@ -1,6 +1,5 @@
-use Rattle.std.proofs.Common.{◌≡◌, ℕ, ◌+◌, ◌-◌, ◌^◌, ◌<◌, ◌≤◌, get_or, subst, arith, w32, Fits, rules}
+use Rattle.std.proofs.Common.{◌≤◌}
 use Rattle.graph.specs.Leaving.{LeavesBelow}
-use Rattle.graph.proofs.Rows.{tidy, leaves_fewer}
 use Rattle.graph.proofs.top.Given as goal
 
 abbrev pub invariant-loop-n : goal.invariant-loop-n

@@ -1,6 +1,5 @@
 use Rattle.listing.specs.Candidates.{chain_item}
 use mathlib.Core.Path.{refl}
-use borrow.Author.Rules.{rules}
 use Rattle.listing.proofs.chain_item.Goals as goal
 
 pub returns : goal.returns

@@ -1,11 +1,9 @@
 use native.Mathlib.Omega.{arith}
 use mathlib.Core.Path.{sym, ◌∙◌}
-use Prim.Native.Nat.{◌-◌}
 use borrow.Author.Tests.{eq-eqb, ne_eqb}
 use Rattle.graph.proofs.Rows.{one_shl}
 use Rattle.graph.specs.Masks.{without}
 use Rattle.listing.specs.Candidates.{ends_by}
-use borrow.Author.Rules.{rules}
 use Rattle.listing.proofs.ends.Goals as goal
 
 pub returns-then-others-eq0 : goal.returns-then-others-eq0

@@ -1,6 +1,5 @@
 use Rattle.listing.specs.Candidates.{item_by}
 use borrow.Author.Tests.{eq-eqb, ne_eqb}
-use borrow.Author.Rules.{rules}
 use Rattle.listing.proofs.item.Goals as goal
 
 pub returns-then-encoding-eq2 : goal.returns-then-encoding-eq2

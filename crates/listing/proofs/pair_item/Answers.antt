@@ -2,7 +2,6 @@ use Rattle.listing.specs.Candidates.{pair_item}
 use Rattle.model.specs.declared.Constraint.{Constraint}
 use Prim.Native.Nat.{ℕ, ◌/◌, ◌%◌}
 use mathlib.Core.Path.{ap₂}
-use borrow.Author.Rules.{rules}
 use Rattle.listing.proofs.pair_item.Goals as goal
 
 pub returns : goal.returns

@@ -4,7 +4,6 @@ use Rattle.model.specs.declared.Constraint.{Constraint}
 use Prim.Native.Nat.{ℕ, ◌/◌, ◌%◌}
 use mathlib.Core.Path.{ap₂}
 use native.Mathlib.Omega.{arith}
-use borrow.Author.Rules.{rules}
 use Rattle.listing.proofs.plain_item.Goals as goal
 
 pub returns : goal.returns

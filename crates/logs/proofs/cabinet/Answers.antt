@@ -1,6 +1,3 @@
-use mathlib.Core.Path.{ap}
-use borrow.Author.Rules.{rules}
-use Rattle.logs.specs.declared.view.Entry.{Entry}
 use Rattle.logs.proofs.Reading.{inside_entry}
 use Rattle.logs.proofs.cabinet.Goals as goal
 

@@ -1,7 +1,4 @@
 use Rattle.logs.proofs.Reading.{inside_entry}
-use Rattle.logs.specs.declared.view.Entry.{Entry}
-use mathlib.Core.Path.{ap}
-use borrow.Author.Rules.{rules}
 use Rattle.logs.proofs.count.Goals as goal
 
 pub entry_of-requires : goal.entry_of-requires

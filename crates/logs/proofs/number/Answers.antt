@@ -4,7 +4,6 @@ use Rattle.model.specs.Log.{first_number, bodies_number, entry_number, counts_be
 use Rattle.logs.proofs.Reading.{head_out}
 use Rattle.model.proofs.Numbers.{load_short, load_many_t, load_many_n, load_shorter, load_longer, load_entries, load_sum, load_bodies}
 use Rattle.logs.proofs.Numbers.{summed_out}
-use borrow.Author.Rules.{rules}
 use Rattle.logs.proofs.number.Goals as goal
 
 pub returns-then-log-lt4 : goal.returns-then-log-lt4

@@ -3,7 +3,6 @@ use Rattle.logs.proofs.Reading.{inside_entry, inside_start}
 use Rattle.logs.specs.declared.view.Entry.{Entry}
 use mathlib.Core.Path.{◌≡◌, ap}
 use native.Mathlib.Omega.{arith}
-use borrow.Author.Rules.{rules}
 use Rattle.logs.proofs.start.Goals as goal
 
 pub entry_of-requires : goal.entry_of-requires

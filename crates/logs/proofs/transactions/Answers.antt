@@ -3,7 +3,6 @@ use native.Mathlib.Omega.{arith}
 use Rattle.model.specs.Log.{transactions_in}
 use Rattle.logs.specs.declared.view.Header.{Header}
 use Rattle.logs.proofs.Reading.{few, head_in}
-use borrow.Author.Rules.{rules}
 use Rattle.logs.proofs.transactions.Goals as goal
 
 pub header_of-requires : goal.header_of-requires

@@ -2,11 +2,10 @@ use Prim.Native.Nat.{◌<◌}
 use Rattle.polygraph.specs.Tables.{put_at}
 use Rattle.polygraph.proofs.Cabinets.{cabinet_low}
 use borrow.Author.Rules.{rules}
-use Prim.Native.Nat.{◌≤◌, ◌-◌}
 use native.Mathlib.Omega.{arith}
 use mathlib.Core.Path.{refl}
 use Rattle.model.proofs.Loaded.{loaded}
-use Rattle.polygraph.proofs.Cabinets.{CabinetsUpTo, cabinets_start, cabinets_next, cabinets_end}
+use Rattle.polygraph.proofs.Cabinets.{cabinets_start, cabinets_next, cabinets_end}
 use Rattle.polygraph.proofs.add_cabinets.Goals as goal
 
 pub loop-t-init : goal.loop-t-init

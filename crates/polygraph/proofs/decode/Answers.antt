@@ -1,10 +1,8 @@
-use borrow.Author.Rules.{rules}
-use Prim.Native.Nat.{◌≤◌, ◌<◌, ◌-◌}
+use Prim.Native.Nat.{◌<◌}
 use native.Mathlib.Omega.{arith}
-use mathlib.Core.Path.{◌≡◌}
 use Rattle.model.specs.Log.{transactions_in}
 use Rattle.model.proofs.Loaded.{loaded}
-use Rattle.polygraph.proofs.Filling.{UpTo, up_start, up_unmarked, up_next, up_end}
+use Rattle.polygraph.proofs.Filling.{up_unmarked, up_next, up_end}
 use Rattle.polygraph.proofs.decode.Goals as goal
 
 pub decode_transaction-count-requires : goal.decode_transaction-count-requires

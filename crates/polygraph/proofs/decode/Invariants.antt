@@ -1,10 +1,7 @@
-use borrow.Author.Rules.{rules}
-use Prim.Native.Nat.{◌≤◌, ◌<◌, ◌-◌}
-use native.Mathlib.Omega.{arith}
+use Prim.Native.Nat.{◌≤◌, ◌-◌}
 use mathlib.Core.Path.{◌≡◌}
 use Rattle.model.specs.Log.{transactions_in}
-use Rattle.model.proofs.Loaded.{loaded}
-use Rattle.polygraph.proofs.Filling.{UpTo, up_start, up_unmarked, up_next, up_end}
+use Rattle.polygraph.proofs.Filling.{UpTo}
 use Rattle.polygraph.proofs.decode.Given as goal
 
 abbrev pub invariant-loop-t : goal.invariant-loop-t

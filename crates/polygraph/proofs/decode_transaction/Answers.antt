@@ -1,10 +1,7 @@
 use Prim.Native.Nat.{◌<◌}
-use Rattle.polygraph.proofs.Filling.{PartUpTo, part_start, kind_low, part_next, part_end, part_low}
+use Rattle.polygraph.proofs.Filling.{part_start, kind_low, part_next, part_end, part_low}
 use borrow.Author.Rules.{rules}
-use Prim.Native.Nat.{◌≤◌, ◌-◌}
 use native.Mathlib.Omega.{arith}
-use mathlib.Core.Path.{◌≡◌}
-use Rattle.model.specs.Log.{count_at}
 use Rattle.polygraph.specs.Tables.{put_at}
 use Rattle.polygraph.proofs.decode_transaction.Goals as goal
 

@@ -1,15 +1,10 @@
-use borrow.Author.Rules.{rules}
 use Prim.Native.Nat.{◌≤◌, ◌-◌}
-use native.Mathlib.Omega.{arith}
-use mathlib.Core.Path.{◌≡◌, refl, ap, ◌∙◌}
+use mathlib.Core.Path.{◌≡◌}
 use lib.Dec.{eqb}
-use lib.ListN.{take, get_or}
+use lib.ListN.{take}
 use Rattle.model.specs.Lists.{fold}
 use Rattle.model.specs.Log.{history_of}
 use Rattle.polygraph.specs.Edges.{cabinet_rows, read_step}
-use Rattle.polygraph.proofs.Marks.{fold_take}
-use Rattle.polygraph.proofs.ReadTable.{slot_in_lt}
-use Rattle.polygraph.proofs.ReadEdges.{known_all}
 use Rattle.polygraph.proofs.known.Given as goal
 
 abbrev pub invariant-loop-i : goal.invariant-loop-i

@@ -1,4 +1,3 @@
-use borrow.Author.Rules.{rules}
 use Rattle.polygraph.proofs.Marks.{mark_is}
 use Rattle.polygraph.proofs.mark_of.Goals as goal
 

@@ -1,7 +1,5 @@
 use Rattle.polygraph.specs.Tables.{mark_step, owner_in}
 use Rattle.polygraph.proofs.Marks.{put_is}
-use native.Mathlib.Omega.{arith}
-use borrow.Author.Rules.{rules}
 use Rattle.polygraph.proofs.mark_read.Goals as goal
 
 pub returns : goal.returns

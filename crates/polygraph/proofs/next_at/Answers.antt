@@ -1,5 +1,4 @@
 use mathlib.Core.Path.{◌∙◌}
-use borrow.Author.Rules.{rules}
 use Rattle.polygraph.proofs.RowWords.{next_word}
 use Rattle.polygraph.proofs.next_at.Goals as goal
 

@@ -1,5 +1,4 @@
 use Rattle.polygraph.proofs.ReadEdges.{own_picked}
-use borrow.Author.Rules.{rules}
 use Rattle.polygraph.proofs.own_edges.Goals as goal
 
 pub returns : goal.returns

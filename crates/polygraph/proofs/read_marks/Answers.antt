@@ -1,15 +1,10 @@
-use lib.ListN.{length}
-use Rattle.polygraph.proofs.Marks.{fold_take}
 use Rattle.polygraph.proofs.ReadEdges.{marked_all}
 use mathlib.Core.Path.{ap₂, ◌∙◌}
-use borrow.Author.Rules.{rules}
-use Prim.Native.Nat.{◌≤◌, ◌-◌}
 use native.Mathlib.Omega.{arith}
-use mathlib.Core.Path.{◌≡◌, refl}
-use lib.ListN.{take, get_or}
+use mathlib.Core.Path.{◌≡◌}
+use lib.ListN.{take}
 use Rattle.model.specs.Lists.{fold}
-use Rattle.graph.proofs.WordLaws.{Filled, filled_start, filled_next}
-use Rattle.polygraph.specs.Tables.{mark_step, slot_in}
+use Rattle.polygraph.specs.Tables.{mark_step}
 use Rattle.polygraph.proofs.read_marks.Goals as goal
 
 pub returns : goal.returns

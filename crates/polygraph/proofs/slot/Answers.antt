@@ -1,6 +1,4 @@
-use native.Mathlib.Omega.{arith}
-use borrow.Author.Rules.{rules}
-use Rattle.polygraph.proofs.ReadTable.{good_low, slot_picked}
+use Rattle.polygraph.proofs.ReadTable.{slot_picked}
 use Rattle.polygraph.proofs.slot.Goals as goal
 
 pub returns : goal.returns

@@ -1,5 +1,4 @@
 use Rattle.polygraph.specs.Tables.{slot_in, key_in, owner_in, argument_in}
-use borrow.Author.Rules.{rules}
 use Rattle.polygraph.proofs.slot_of.Goals as goal
 
 pub returns : goal.returns

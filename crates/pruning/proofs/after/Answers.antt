@@ -1,4 +1,3 @@
-use borrow.Author.Rules.{rules}
 use borrow.Author.Tests.{lt-ltb, le-ltb}
 use Rattle.pruning.specs.Passes.{next_place}
 use Rattle.pruning.proofs.after.Goals as goal

@@ -1,9 +1,7 @@
-use borrow.Author.Rules.{rules}
 use Prim.Native.Nat.{ℕ, ◌<◌}
 use mathlib.Core.Path.{sym, subst}
 use Rattle.pruning.proofs.Steps.{resolution_is, picked_none, picked_low}
 use native.Mathlib.Omega.{arith}
-use borrow.Author.Tests.{not-true}
 use Rattle.pruning.proofs.judge.Goals as goal
 
 pub returns-then-not-drops : goal.returns-then-not-drops

@@ -1,6 +1,5 @@
 -- A pass after a hit, and at the end the polygraph that pruning leaves.
-use Rattle.std.proofs.Common.{◌≡◌, ℕ, ◌<◌, ◌^◌, List, length, get_or, sym, ap, subst, ◌∙◌, arith, rules, w32, Fits}
-use Rattle.model.specs.declared.Constraint.{Constraint}
+use Rattle.std.proofs.Common.{ℕ, ◌<◌, List, get_or, sym, ap, subst, ◌∙◌, rules, w32, Fits}
 use Rattle.model.specs.Polygraph.{reach}
 use Rattle.graph.proofs.Rows.{tidy}
 use Rattle.pruning.specs.declared.Place.{Place}

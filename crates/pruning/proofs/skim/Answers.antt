@@ -1,5 +1,4 @@
 -- One constraint more that stays.
-use Rattle.std.proofs.Common.{arith}
 use Rattle.pruning.proofs.Turns.{upto_next, upto_idle}
 use Rattle.pruning.proofs.skim.Goals as goal
 

@@ -2,7 +2,6 @@ use Rattle.model.specs.Times.{times}
 use Rattle.model.proofs.Times.{timed_log, times_short}
 use Rattle.replay.proofs.Judging.{legal_no, legal_late, legal_by}
 use Rattle.replay.proofs.Placing.{order_places}
-use borrow.Author.Tests.{not-true, not-false}
 use Rattle.replay.proofs.is_legal.Goals as goal
 
 pub places-places-requires : goal.places-places-requires

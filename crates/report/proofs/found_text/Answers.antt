@@ -1,7 +1,6 @@
 use native.Mathlib.Omega.{arith}
 use Rattle.report.proofs.Texts.{wrote_two, order_length}
 use Rattle.report.specs.Text.{found_text}
-use borrow.Author.Rules.{rules}
 use Rattle.report.proofs.found_text.Goals as goal
 
 pub put_table-requires : goal.put_table-requires

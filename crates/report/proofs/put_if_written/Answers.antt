@@ -4,7 +4,6 @@ use Rattle.report.specs.Text.{line_if}
 use mathlib.Core.Path.{ap, sym}
 use mathlib.Core.Bool.{Bool, not}
 use borrow.Author.Tests.{eq-eqb, ne_eqb}
-use borrow.Author.Rules.{rules}
 use Rattle.report.proofs.put_if_written.Goals as goal
 
 pub returns-then-writers-ne0 : goal.returns-then-writers-ne0

@@ -1,7 +1,6 @@
 use native.Mathlib.Omega.{arith}
 use Rattle.report.proofs.Texts.{wrote_two, number_length}
 use Rattle.report.specs.Text.{letters, key_text}
-use borrow.Author.Rules.{rules}
 use Rattle.report.proofs.put_key.Goals as goal
 
 pub put_number-b-requires : goal.put_number-b-requires

@@ -1,7 +1,6 @@
 use native.Mathlib.Omega.{arith}
 use Rattle.report.proofs.Texts.{wrote_two, digits_length}
 use Rattle.report.specs.Text.{number_text}
-use borrow.Author.Rules.{rules}
 use Rattle.report.proofs.put_number.Goals as goal
 
 pub put_digits-requires : goal.put_digits-requires

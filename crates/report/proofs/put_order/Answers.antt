@@ -1,7 +1,6 @@
 use native.Mathlib.Omega.{arith}
 use Rattle.report.proofs.Texts.{wrote_two, steps_length}
 use Rattle.report.specs.Text.{order_text}
-use borrow.Author.Rules.{rules}
 use Rattle.report.proofs.put_order.Goals as goal
 
 pub push-requires : goal.push-requires

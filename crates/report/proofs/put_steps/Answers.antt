@@ -1,11 +1,9 @@
 use native.Mathlib.Omega.{arith}
 use borrow.Author.Rules.{rules}
-use Rattle.report.proofs.Texts.{wrote_none, wrote_next, wrote_as, steps_next, steps_length}
-use Rattle.report.specs.Text.{letters, Wrote, number_text, step_text}
-use Prim.Native.Nat.{ℕ, ◌≤◌, ◌-◌}
+use Rattle.report.proofs.Texts.{wrote_next, wrote_as, steps_next, steps_length}
+use Rattle.report.specs.Text.{letters, number_text}
 use mathlib.Core.Path.{◌≡◌, ap}
-use lib.ListN.{length, take}
-use Rattle.model.specs.Lists.{each}
+use lib.ListN.{length}
 use Rattle.report.proofs.put_steps.Goals as goal
 
 pub put_number-end-requires : goal.put_number-end-requires

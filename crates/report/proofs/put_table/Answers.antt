@@ -1,9 +1,7 @@
 use native.Mathlib.Omega.{arith}
-use borrow.Author.Rules.{rules}
 use Rattle.report.proofs.Texts.{wrote_none, wrote_next, wrote_as, table_none, table_next, table_length}
-use Rattle.report.specs.Text.{Wrote, table_text, marked}
-use Prim.Native.Nat.{◌≤◌, ◌-◌}
-use mathlib.Core.Path.{◌≡◌, ap, sym}
+use Rattle.report.specs.Text.{marked}
+use mathlib.Core.Path.{sym}
 use Rattle.report.proofs.put_table.Goals as goal
 
 pub loop-k-init : goal.loop-k-init

@@ -1,9 +1,6 @@
 use Prim.Native.Nat.{◌≤◌, ◌-◌}
-use native.Mathlib.Omega.{arith}
-use borrow.Author.Rules.{rules}
 use lib.ListN.{length, take}
 use Rattle.report.specs.Text.{Wrote}
-use Rattle.report.proofs.Texts.{wrote_none, wrote_next, take_next, word_room, word_end}
 use Rattle.report.proofs.put_word.Given as goal
 
 abbrev pub invariant-loop-i : goal.invariant-loop-i

@@ -2,7 +2,6 @@ use native.Mathlib.Omega.{arith}
 use Rattle.report.proofs.Texts.{wrote_two, wrote_as, number_length}
 use Rattle.report.specs.Text.{letters, number_text, refused_text}
 use mathlib.Core.Path.{ap}
-use borrow.Author.Rules.{rules}
 use Rattle.report.proofs.refused_text.Goals as goal
 
 pub push-requires : goal.push-requires

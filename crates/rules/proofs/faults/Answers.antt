@@ -1,10 +1,8 @@
 use mathlib.Core.Path.{ap, ap₂, ◌∙◌}
 use mathlib.Core.Bool.{cond}
 use Prim.Native.Nat.{◌/◌}
-use native.Mathlib.Omega.{arith}
-use lib.Bits.{bit_and, bit_or, or_lt, and_le_l}
+use lib.Bits.{bit_and, bit_or}
 use Rattle.rules.specs.Tests.{named, faults_by}
-use borrow.Author.Rules.{rules}
 use Rattle.rules.proofs.faults.Goals as goal
 
 pub returns : goal.returns

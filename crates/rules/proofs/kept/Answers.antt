@@ -3,9 +3,6 @@ use native.Mathlib.Nat.{mod-eq_of_lt}
 use mathlib.Core.Path.{◌≡◌, ap, ◌∙◌}
 use mathlib.Core.Bool.{Bool, true, false, cond}
 use lib.Bits.{bit_and, and_mask, and_zero_r}
-use mir.Val.{Fits}
-use mir.Syntax.{w32}
-use borrow.Author.Rules.{rules}
 use Rattle.rules.specs.Tests.{keep_word}
 use Rattle.rules.proofs.kept.Goals as goal
 

@@ -1,6 +1,5 @@
 use Rattle.rules.specs.Tests.{mark_by}
 use borrow.Author.Tests.{eq-eqb, ne_eqb}
-use borrow.Author.Rules.{rules}
 use Rattle.rules.proofs.mark.Goals as goal
 
 pub returns-then-kind-which : goal.returns-then-kind-which

@@ -1,6 +1,5 @@
 use mathlib.Core.Path.{sym, ◌∙◌}
 use Rattle.rules.specs.Tests.{mark_back}
-use borrow.Author.Rules.{rules}
 use Rattle.rules.proofs.mark_back.Goals as goal
 
 pub returns-then-has : goal.returns-then-has

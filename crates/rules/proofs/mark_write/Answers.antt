@@ -1,8 +1,7 @@
 use Prim.Native.Nat.{ℕ, zero, suc, ◌^◌, ◌<◌}
 use native.Mathlib.Omega.{arith}
-use mathlib.Core.Path.{◌≡◌, sym, ap, ap₂, ◌∙◌}
+use mathlib.Core.Path.{◌≡◌, ap, ap₂, ◌∙◌}
 use lib.Bits.{bit_or, bit_xor, or_zero_l, or_zero_r, xor_zero_r, xor_self}
-use borrow.Author.Rules.{rules}
 use Rattle.rules.specs.Tests.{mark_by}
 use Rattle.rules.proofs.mark_write.Goals as goal
 

@@ -1,6 +1,5 @@
 use Rattle.rules.specs.Tests.{body_by}
 use borrow.Author.Tests.{eq-eqb, ne_eqb, lt-ltb, le-ltb}
-use borrow.Author.Rules.{rules}
 use Rattle.rules.proofs.number.Goals as goal
 
 pub returns-then-o-gt1 : goal.returns-then-o-gt1

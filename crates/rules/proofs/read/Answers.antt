@@ -1,7 +1,5 @@
 use mathlib.Core.Path.{sym, ◌∙◌}
-use borrow.Author.Tests.{not-true, not-false}
 use Rattle.rules.specs.Tests.{read_by}
-use borrow.Author.Rules.{rules}
 use Rattle.rules.proofs.read.Goals as goal
 
 pub returns-then-not-names : goal.returns-then-not-names

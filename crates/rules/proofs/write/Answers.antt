@@ -1,6 +1,5 @@
 use mathlib.Core.Path.{sym, ◌∙◌}
 use Rattle.rules.specs.Tests.{write_by}
-use borrow.Author.Rules.{rules}
 use Rattle.rules.proofs.write.Goals as goal
 
 pub returns-then-has : goal.returns-then-has

@@ -4,7 +4,6 @@ use native.Mathlib.Nat.{mod-eq_of_lt, div-mul-le_self}
 use Prim.Native.Nat.{ℕ, ◌*◌, ◌/◌, ◌^◌}
 use Rattle.model.specs.Lists.{bit}
 use Rattle.search.proofs.Words.{high_bits}
-use borrow.Author.Rules.{rules}
 use Rattle.search.proofs.bits_from.Goals as goal
 
 pub returns : goal.returns

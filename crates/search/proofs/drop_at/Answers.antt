@@ -1,7 +1,5 @@
-use native.Mathlib.Omega.{arith}
 use Rattle.search.proofs.Words.{one_less}
 use Rattle.search.proofs.Opens.{dropped}
-use borrow.Author.Rules.{rules}
 use Rattle.search.proofs.drop_at.Goals as goal
 
 pub returns : goal.returns

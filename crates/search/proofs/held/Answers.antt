@@ -1,5 +1,4 @@
 use Rattle.search.proofs.Steps.{held_first, held_second}
-use borrow.Author.Rules.{rules}
 use Rattle.search.proofs.held.Goals as goal
 
 pub returns-then-side_held : goal.returns-then-side_held

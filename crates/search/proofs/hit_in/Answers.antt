@@ -1,11 +1,7 @@
-use Rattle.search.proofs.Words.{Scan, scan_none, scan_end, scan_before, scan_low, scan_top, scan_next}
-use Rattle.search.proofs.Steps.{is_true, is_false, nodes_of, room_at}
+use Rattle.search.proofs.Words.{scan_end, scan_before, scan_low}
+use Rattle.search.proofs.Steps.{is_true, nodes_of, room_at}
 use Rattle.search.specs.Steps.{shut}
-use Rattle.search.specs.Constraints.{con_at}
-use Prim.Native.Nat.{ℕ, ◌+◌}
 use mathlib.Core.Path.{ap, ◌∙◌}
-use mathlib.Core.Bool.{not}
-use lib.Dec.{T}
 use native.Mathlib.Omega.{arith}
 use Rattle.search.proofs.hit_in.Goals as goal
 

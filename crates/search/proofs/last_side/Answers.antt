@@ -1,7 +1,6 @@
 use mathlib.Core.Path.{refl}
 use Rattle.search.specs.Steps.{Last}
-use Rattle.search.proofs.Steps.{is_true, is_false, off_is, shut_other}
-use borrow.Author.Rules.{rules}
+use Rattle.search.proofs.Steps.{is_false, off_is, shut_other}
 use Rattle.search.proofs.last_side.Goals as goal
 
 pub returns : goal.returns

@@ -1,13 +1,7 @@
-use Rattle.search.proofs.Steps.{nodes_of, room_at}
-use Rattle.search.proofs.Counts.{open_next}
-use Rattle.search.proofs.Opens.{choice_none, choice_found, choice_next}
 use Rattle.search.specs.Constraints.{is_open, con_at}
-use Rattle.search.proofs.Steps.{is_true, is_false, not-true, not-false}
 use Rattle.model.specs.RowWords.{held}
 use lib.Dec.{T}
 use Prim.Native.Nat.{ℕ, ◌≤◌, ◌<◌, ◌-◌}
-use mathlib.Core.Path.{ap, ◌∙◌}
-use native.Mathlib.Omega.{arith}
 use Rattle.search.proofs.next_choice.Given as goal
 
 abbrev pub invariant-loop-n : goal.invariant-loop-n

@@ -1,12 +1,7 @@
 use mir.Syntax.{w32}
 use mir.Val.{Fits}
 use Rattle.graph.proofs.Rows.{bit_below}
-use Rattle.search.proofs.Opens.{hit_found, hit_skip, hit_none, word_out}
-use Rattle.search.specs.Constraints.{is_open, con_at}
-use Rattle.search.specs.Steps.{shut}
-use lib.Dec.{T}
-use mathlib.Core.Bool.{not}
-use Prim.Native.Nat.{ℕ, ◌≤◌, ◌<◌, ◌-◌}
+use Rattle.search.proofs.Opens.{hit_found, hit_skip, word_out}
 use native.Mathlib.Omega.{arith}
 use borrow.Author.Rules.{rules}
 use Rattle.search.proofs.next_hit.Goals as goal

@@ -1,12 +1,6 @@
-use lib.Count.{trailing_le}
-use Rattle.search.proofs.Opens.{next_found, next_skip, next_none}
 use Rattle.search.specs.Constraints.{is_open}
 use lib.Dec.{T}
-use mir.Syntax.{w32}
-use mir.Val.{Fits}
 use Prim.Native.Nat.{ℕ, ◌≤◌, ◌<◌, ◌-◌}
-use native.Mathlib.Omega.{arith}
-use borrow.Author.Rules.{rules}
 use Rattle.search.proofs.next_open.Given as goal
 
 abbrev pub invariant-loop-i : goal.invariant-loop-i

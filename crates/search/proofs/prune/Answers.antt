@@ -1,12 +1,6 @@
-use Rattle.search.proofs.Opens.{Pruning, pruning_none, pruning_next, pruning_stuck, pruning_again, pruning_end, drop_falls}
-use Rattle.search.specs.Constraints.{open_count}
-use Prim.Native.Nat.{◌+◌, ◌*◌, ◌-◌}
-use mathlib.Core.Path.{sym, subst}
+use Rattle.search.proofs.Opens.{pruning_none, pruning_next, pruning_stuck, pruning_again, pruning_end, drop_falls}
 use native.Mathlib.Omega.{arith}
-use Rattle.search.proofs.Steps.{nodes_of, last_node, is_true, is_false, off_is, room_at}
-use Rattle.search.specs.Steps.{shut}
-use lib.Dec.{T}
-use Rattle.model.specs.declared.Constraint.{Constraint}
+use Rattle.search.proofs.Steps.{is_true, off_is}
 use Rattle.search.proofs.prune.Goals as goal
 
 pub loop-stop-init : goal.loop-stop-init

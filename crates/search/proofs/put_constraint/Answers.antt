@@ -1,7 +1,3 @@
-use mathlib.Core.List.{List}
-use native.Mathlib.Omega.{arith}
-use Prim.Native.Nat.{ℕ, ◌+◌, ◌*◌}
-use lib.ListN.{set, length-set}
 use Rattle.search.specs.Constraints.{with_words}
 use borrow.Author.Rules.{rules}
 use Rattle.search.proofs.put_constraint.Goals as goal

@@ -1,5 +1,4 @@
 use Rattle.search.proofs.Steps.{shut_is, off_is}
-use borrow.Author.Rules.{rules}
 use Rattle.search.proofs.shut.Goals as goal
 
 pub returns : goal.returns

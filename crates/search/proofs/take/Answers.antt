@@ -1,5 +1,4 @@
 use Rattle.search.proofs.Steps.{taken, grew}
-use borrow.Author.Rules.{rules}
 use Rattle.search.proofs.take.Goals as goal
 
 pub returns : goal.returns

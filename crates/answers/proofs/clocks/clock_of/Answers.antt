@@ -1,6 +1,5 @@
 use Rattle.model.specs.Times.{times}
 use Rattle.answers.proofs.Rooms.{clock_is}
-use borrow.Author.Rules.{rules}
 use Rattle.answers.proofs.clocks.clock_of.Goals as goal
 
 pub returns : goal.returns

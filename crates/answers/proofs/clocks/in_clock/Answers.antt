@@ -1,5 +1,4 @@
 use Rattle.answers.proofs.Rooms.{in_clock_lem}
-use borrow.Author.Rules.{rules}
 use Rattle.answers.proofs.clocks.in_clock.Goals as goal
 
 pub returns : goal.returns

@@ -1,10 +1,9 @@
-use Rattle.answers.proofs.Copying.{copies_long, copies_into, copies_next, copies_end}
-use Rattle.answers.specs.Copies.{copied}
+use Rattle.answers.proofs.Copying.{copies_next}
 use borrow.Author.Rules.{rules}
 use lib.ListN.{length}
 use mathlib.Core.List.{List}
-use Prim.Native.Nat.{ℕ, ◌≤◌, ◌-◌}
-use mathlib.Core.Path.{◌≡◌, refl}
+use Prim.Native.Nat.{ℕ, ◌≤◌}
+use mathlib.Core.Path.{◌≡◌}
 use native.Mathlib.Omega.{arith}
 use Rattle.answers.proofs.copies.copy_rows.Goals as goal
 

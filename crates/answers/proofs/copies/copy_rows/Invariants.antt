@@ -1,11 +1,6 @@
-use Rattle.answers.proofs.Copying.{copies_long, copies_into, copies_next, copies_end}
 use Rattle.answers.specs.Copies.{copied}
-use borrow.Author.Rules.{rules}
-use lib.ListN.{length}
-use mathlib.Core.List.{List}
-use Prim.Native.Nat.{ℕ, ◌≤◌, ◌-◌}
-use mathlib.Core.Path.{◌≡◌, refl}
-use native.Mathlib.Omega.{arith}
+use Prim.Native.Nat.{◌≤◌, ◌-◌}
+use mathlib.Core.Path.{◌≡◌}
 use Rattle.answers.proofs.copies.copy_rows.Given as goal
 
 abbrev pub invariant-loop-i : goal.invariant-loop-i

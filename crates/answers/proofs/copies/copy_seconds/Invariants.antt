@@ -1,8 +1,5 @@
-use Rattle.answers.proofs.Copying.{copies_long, copies_into, copies_next, copies_end}
 use Rattle.answers.specs.Copies.{copied}
-use mathlib.Core.Path.{◌≡◌, refl}
-use borrow.Author.Rules.{rules}
-use native.Mathlib.Omega.{arith}
+use mathlib.Core.Path.{◌≡◌}
 use Prim.Native.Nat.{◌≤◌, ◌-◌}
 use Rattle.answers.proofs.copies.copy_seconds.Given as goal
 

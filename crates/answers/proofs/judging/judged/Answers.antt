@@ -1,12 +1,9 @@
 use Rattle.answers.proofs.Answering.{judged_none, judged_some}
-use Rattle.answers.proofs.Holding.{holds_true}
 use Rattle.model.specs.History.{is_order}
 use Rattle.model.proofs.Times.{timed_log}
 use Prim.Native.Nat.{ℕ}
 use mathlib.Core.Bool.{true, false}
 use mathlib.Core.Path.{sym, ap, ◌∙◌}
-use borrow.Author.Tests.{not-true, not-false}
-use borrow.Author.Rules.{rules}
 use Rattle.answers.proofs.judging.judged.Goals as goal
 
 pub transactions-n-requires : goal.transactions-n-requires

@@ -1,8 +1,4 @@
 use Rattle.answers.proofs.Holding.{claims_is}
-use lib.Seq.{length-take-le}
-use mathlib.Core.Path.{sym}
-use native.Mathlib.Omega.{arith}
-use borrow.Author.Rules.{rules}
 use Rattle.answers.proofs.stages.claims_order.Goals as goal
 
 pub returns : goal.returns

@@ -3,7 +3,6 @@ use Rattle.answers.specs.Stages.{counted}
 use Rattle.answers.specs.declared.Stage.TheVariants.{Fresh, Loaded, Ordered, NoOrder}
 use mathlib.Core.Bool.{true, false}
 use mathlib.Core.Path.{refl, sym, ◌∙◌}
-use borrow.Author.Tests.{not-true, not-false}
 use borrow.Author.Rules.{rules}
 use Rattle.answers.proofs.stages.counted_as.Goals as goal
 

@@ -1,9 +1,4 @@
 use Rattle.answers.proofs.Holding.{window_none, window_far, window_some, over, under}
-use lib.ListN.{length}
-use lib.Seq.{length-take-le}
-use mathlib.Core.Path.{◌≡◌, sym}
-use native.Mathlib.Omega.{arith}
-use borrow.Author.Rules.{rules}
 use Rattle.answers.proofs.stages.holds_window.Goals as goal
 
 pub returns-then-length-bytes : goal.returns-then-length-bytes

@@ -1,13 +1,8 @@
-use Rattle.replay.proofs.Alls.{all_next, all_stop, all_end}
-use Rattle.model.specs.Lists.{all, up_to}
+use Rattle.replay.proofs.Alls.{all_stop}
 use Rattle.model.proofs.Basics.{not_intro}
-use Prim.Native.Nat.{ℕ, ◌≤◌, ◌-◌}
-use lib.Dec.{T, leb, leb→le, le→leb}
+use lib.Dec.{leb→le}
 use lib.ListN.{length, get_or}
-use mathlib.Core.Bool.{Bool}
-use mathlib.Core.List.{List}
 use native.Mathlib.Omega.{arith}
-use borrow.Author.Rules.{rules}
 use Rattle.answers.proofs.windows.in_turn.Invariants.{turn}
 use Rattle.answers.proofs.windows.in_turn.Goals as goal
 

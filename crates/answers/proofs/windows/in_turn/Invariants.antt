@@ -1,13 +1,9 @@
-use Rattle.replay.proofs.Alls.{all_next, all_stop, all_end}
 use Rattle.model.specs.Lists.{all, up_to}
-use Rattle.model.proofs.Basics.{not_intro}
 use Prim.Native.Nat.{ℕ, ◌≤◌, ◌-◌}
-use lib.Dec.{T, leb, leb→le, le→leb}
+use lib.Dec.{T, leb}
 use lib.ListN.{length, get_or}
 use mathlib.Core.Bool.{Bool}
 use mathlib.Core.List.{List}
-use native.Mathlib.Omega.{arith}
-use borrow.Author.Rules.{rules}
 use Rattle.answers.proofs.windows.in_turn.Given as goal
 
 abbrev pub turn : List ℕ → List ℕ → ℕ → Bool

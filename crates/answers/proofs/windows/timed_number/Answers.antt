@@ -1,7 +1,6 @@
 use Rattle.model.specs.Times.{times, times_number}
 use Rattle.model.proofs.Windows.{number_by_log, number_by_times}
 use mathlib.Core.Path.{sym, ap, ◌∙◌}
-use borrow.Author.Rules.{rules}
 use Rattle.answers.proofs.windows.timed_number.Goals as goal
 
 pub returns-then-number-ne0 : goal.returns-then-number-ne0

@@ -1,4 +1,4 @@
-use Rattle.std.proofs.Common.{ℕ, ◌/◌, ◌^◌, eqb, ap, rules}
+use Rattle.std.proofs.Common.{ℕ, ◌/◌, ◌^◌, eqb, ap}
 use lib.Bits.{and_mask}
 use Rattle.model.specs.Lists.{bit}
 use Rattle.graph.proofs.mask.has.Goals as goal

@@ -1,4 +1,4 @@
-use Rattle.std.proofs.Common.{ℕ, ◌^◌, ◌<◌, rules}
+use Rattle.std.proofs.Common.{◌^◌, ◌<◌, rules}
 use Rattle.graph.proofs.WordLaws.{low_alone}
 use Rattle.graph.proofs.mask.lowest.Goals as goal
 

@@ -1,4 +1,4 @@
-use Rattle.std.proofs.Common.{◌≡◌, ℕ, zero, suc, ◌/◌, ◌%◌, ◌^◌, ◌<◌, cond, eqb, refl, ◌∙◌, arith, rules}
+use Rattle.std.proofs.Common.{◌≡◌, ℕ, zero, suc, ◌/◌, ◌%◌, ◌^◌, ◌<◌, cond, eqb, refl, ◌∙◌, arith}
 use lib.Bits.{and_mask}
 use Rattle.model.specs.Lists.{bit}
 use Rattle.graph.proofs.mask.member.Goals as goal

@@ -1,4 +1,3 @@
-use Rattle.std.proofs.Common.{◌≡◌, sym, ◌∙◌, rules}
 use Rattle.graph.specs.Masks.{put_if}
 use Rattle.graph.proofs.mask.put_if.Goals as goal
 

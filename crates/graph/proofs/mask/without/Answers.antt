@@ -1,4 +1,4 @@
-use Rattle.std.proofs.Common.{◌≡◌, ℕ, ◌+◌, ◌-◌, ◌*◌, ◌/◌, ◌^◌, ◌≤◌, sym, refl, ap, ◌∙◌, ap₂, arith, rules}
+use Rattle.std.proofs.Common.{ℕ, ap, rules}
 use lib.Bits.{bit_and, bit_xor}
 use Rattle.graph.proofs.Rows.{one_shl}
 use Rattle.graph.specs.Masks.{without}

@@ -1,9 +1,8 @@
 use mathlib.Core.Path.{ap, sym, ◌∙◌}
-use Prim.Native.Nat.{ℕ, ◌-◌}
-use borrow.Author.Tests.{eq-eqb, ne_eqb, lt-ltb, le-ltb, not-true, not-false}
+use Prim.Native.Nat.{ℕ}
+use borrow.Author.Tests.{eq-eqb, ne_eqb, lt-ltb, le-ltb}
 use Rattle.graph.specs.Masks.{without}
 use Rattle.listing.specs.Plain.{plain_mask}
-use borrow.Author.Rules.{rules}
 use Rattle.listing.proofs.plain.mask.Goals as goal
 
 pub returns-then-kind-ne0 : goal.returns-then-kind-ne0

@@ -1,13 +1,8 @@
-use native.Mathlib.Omega.{arith}
-use mathlib.Core.Path.{◌≡◌, ap, sym, subst}
-use mathlib.Core.List.{List}
-use lib.ListN.{length, set}
-use Prim.Native.Nat.{ℕ, ◌≤◌, ◌-◌, ◌+◌, ◌*◌, ◌%◌}
-use borrow.Author.Rules.{rules}
+use mathlib.Core.Path.{◌≡◌}
+use Prim.Native.Nat.{◌≤◌, ◌-◌, ◌+◌}
 use Rattle.model.specs.Log.{count_at, start_at}
 use Rattle.listing.specs.Choosing.{Chose}
 use Rattle.listing.specs.Plain.{PlainTable, plain_numbers_of}
-use Rattle.listing.proofs.PlainFill.{plain_next, plain_begin, numbers_none, body_numbers_lem, numbers_room, numbers_next}
 use Rattle.listing.proofs.plain.rows.Given as goal
 
 abbrev pub invariant-loop-m : goal.invariant-loop-m

@@ -1,11 +1,8 @@
-use native.Mathlib.Omega.{arith}
 use mathlib.Core.Path.{◌≡◌}
 use Prim.Native.Nat.{◌≤◌, ◌-◌}
-use borrow.Author.Rules.{rules}
 use Rattle.model.specs.Log.{transactions_in, counts_before}
 use Rattle.listing.specs.Choosing.{Chose}
 use Rattle.listing.specs.Plain.{plain_numbers, PlainTable}
-use Rattle.listing.proofs.PlainFill.{plain_start, plain_enter, plain_leave, plain_end, plain_mark, bodies_none, bodies_room, bodies_next, bodies_all}
 use Rattle.listing.proofs.plain.table.Given as goal
 
 abbrev pub invariant-loop-t : goal.invariant-loop-t

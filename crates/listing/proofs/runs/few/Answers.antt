@@ -1,5 +1,4 @@
 use Rattle.listing.proofs.Stepping.{few_none, few_some}
-use borrow.Author.Rules.{rules}
 use Rattle.listing.proofs.runs.few.Goals as goal
 
 pub returns-then-set-eq0 : goal.returns-then-set-eq0

@@ -1,6 +1,5 @@
 use borrow.Author.Tests.{eq-eqb, ne_eqb}
 use Rattle.listing.specs.Runs.{first_by}
-use borrow.Author.Rules.{rules}
 use Rattle.listing.proofs.runs.first.Goals as goal
 
 pub returns-then-encoding-eq2 : goal.returns-then-encoding-eq2

@@ -1,11 +1,10 @@
 use native.Mathlib.Omega.{arith}
-use Prim.Native.Nat.{ℕ, ◌^◌, ◌<◌}
-use mathlib.Core.Path.{◌≡◌, refl, sym, ap, ◌∙◌}
+use Prim.Native.Nat.{ℕ}
+use mathlib.Core.Path.{sym, ap, ◌∙◌}
 use lib.Bits.{bit_and, bit_xor}
 use borrow.Author.Rules.{rules}
-use Rattle.graph.specs.Members.{members}
-use Rattle.graph.proofs.MemberLaws.{members_next, low_below}
-use Rattle.listing.specs.Runs.{nexts_of, head_by}
+use Rattle.graph.proofs.MemberLaws.{members_next}
+use Rattle.listing.specs.Runs.{head_by}
 use Rattle.listing.proofs.Stepping.{low_is, nexts_next, nexts_none}
 use Rattle.listing.proofs.runs.head.Goals as goal
 

@@ -1,12 +1,7 @@
-use native.Mathlib.Omega.{arith}
-use Prim.Native.Nat.{ℕ, ◌^◌, ◌<◌}
-use mathlib.Core.Path.{◌≡◌, refl, sym, ap, ◌∙◌}
-use lib.Bits.{bit_and, bit_xor}
-use borrow.Author.Rules.{rules}
+use Prim.Native.Nat.{◌^◌, ◌<◌}
+use mathlib.Core.Path.{◌≡◌}
 use Rattle.graph.specs.Members.{members}
-use Rattle.graph.proofs.MemberLaws.{members_next, low_below}
-use Rattle.listing.specs.Runs.{nexts_of, head_by}
-use Rattle.listing.proofs.Stepping.{low_is, nexts_next, nexts_none}
+use Rattle.listing.specs.Runs.{nexts_of}
 use Rattle.listing.proofs.runs.head.Given as goal
 
 abbrev pub invariant-loop-m : goal.invariant-loop-m

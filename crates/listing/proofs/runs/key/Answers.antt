@@ -7,7 +7,6 @@ use Rattle.listing.specs.Choosing.{Chose}
 use Rattle.listing.specs.Runs.{words_by, pairs_in}
 use Rattle.listing.proofs.Keys.{idle_few, idle_is, key_idle, key_busy}
 use Rattle.listing.proofs.RunWords.{numbers_are}
-use borrow.Author.Rules.{rules}
 use Rattle.listing.proofs.runs.key.Goals as goal
 
 pub returns-then-few : goal.returns-then-few

@@ -2,7 +2,6 @@ use native.Mathlib.Omega.{arith}
 use mathlib.Core.Path.{refl}
 use borrow.Author.Tests.{eq-eqb, ne_eqb}
 use Rattle.listing.specs.Runs.{last_by}
-use borrow.Author.Rules.{rules}
 use Rattle.listing.proofs.runs.last.Goals as goal
 
 pub returns-then-encoding-eq2 : goal.returns-then-encoding-eq2

@@ -1,12 +1,11 @@
 use lib.Count.{count_trailing_zeros}
 use native.Mathlib.Omega.{arith}
-use Prim.Native.Nat.{◌+◌, ◌*◌, ◌^◌, ◌<◌}
-use borrow.Author.Rules.{rules}
+use Prim.Native.Nat.{◌+◌, ◌*◌}
 use Rattle.graph.specs.Members.{members}
 use Rattle.graph.proofs.MemberLaws.{members_next, low_below}
 use Rattle.listing.specs.Choosing.{in_row}
 use Rattle.listing.specs.Runs.{pairs_in}
-use Rattle.listing.proofs.Choosing.{Going, going_next, going_end, going_room}
+use Rattle.listing.proofs.Choosing.{going_next, going_end, going_room}
 use Rattle.listing.proofs.Stepping.{pairs_next, pairs_none}
 use Rattle.listing.proofs.runs.pairs.Goals as goal
 

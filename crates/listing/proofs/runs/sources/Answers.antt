@@ -2,7 +2,6 @@ use native.Mathlib.Omega.{arith}
 use borrow.Author.Tests.{eq-eqb, ne_eqb}
 use Rattle.graph.proofs.Rows.{one_shl}
 use Rattle.listing.specs.Runs.{sources_by}
-use borrow.Author.Rules.{rules}
 use Rattle.listing.proofs.runs.sources.Goals as goal
 
 pub returns-then-encoding-ne2 : goal.returns-then-encoding-ne2

@@ -1,7 +1,5 @@
-use native.Mathlib.Omega.{arith}
 use Prim.Native.Nat.{◌≤◌, ◌-◌}
-use borrow.Author.Rules.{rules}
-use Rattle.listing.proofs.Keys.{Keys, keys_none, keys_next, keys_room, keys_all}
+use Rattle.listing.proofs.Keys.{Keys}
 use Rattle.listing.proofs.runs.table.Given as goal
 
 abbrev pub invariant-loop-k : goal.invariant-loop-k

@@ -1,10 +1,7 @@
-use native.Mathlib.Omega.{arith}
-use Prim.Native.Nat.{◌≤◌, ◌<◌, ◌-◌, ◌+◌}
-use mathlib.Core.Path.{◌≡◌, sym, ap, ◌∙◌}
-use borrow.Author.Rules.{rules}
+use Prim.Native.Nat.{◌≤◌, ◌<◌, ◌-◌}
+use mathlib.Core.Path.{◌≡◌}
 use Rattle.polygraph.specs.Edges.{successors_by}
 use Rattle.listing.specs.Runs.{tail_by}
-use Rattle.listing.proofs.Tailing.{tail_begin, tail_on, tail_stop, tail_end}
 use Rattle.listing.proofs.runs.tail.Given as goal
 
 abbrev pub invariant-loop-m : goal.invariant-loop-m

@@ -2,7 +2,6 @@ use Prim.Native.Nat.{ℕ, ◌+◌, ◌*◌}
 use mathlib.Core.Path.{ap, ◌∙◌}
 use lib.ListN.{get_or}
 use Rattle.listing.specs.Runs.{sources_by, word_by}
-use borrow.Author.Rules.{rules}
 use Rattle.listing.proofs.runs.word.Goals as goal
 
 pub returns : goal.returns

@@ -1,9 +1,6 @@
 use native.Mathlib.Omega.{arith}
-use Prim.Native.Nat.{◌^◌, ◌<◌}
-use mathlib.Core.Path.{◌≡◌, refl, sym, ◌∙◌}
-use Rattle.graph.specs.Members.{members}
-use Rattle.graph.proofs.MemberLaws.{members_next, low_below}
-use Rattle.listing.specs.Runs.{words_by}
+use mathlib.Core.Path.{sym, ◌∙◌}
+use Rattle.graph.proofs.MemberLaws.{members_next}
 use Rattle.listing.proofs.Stepping.{words_next, words_none}
 use Rattle.listing.proofs.runs.words.Goals as goal
 

@@ -1,10 +1,7 @@
-use native.Mathlib.Omega.{arith}
 use Prim.Native.Nat.{◌^◌, ◌<◌}
-use mathlib.Core.Path.{◌≡◌, refl, sym, ◌∙◌}
+use mathlib.Core.Path.{◌≡◌}
 use Rattle.graph.specs.Members.{members}
-use Rattle.graph.proofs.MemberLaws.{members_next, low_below}
 use Rattle.listing.specs.Runs.{words_by}
-use Rattle.listing.proofs.Stepping.{words_next, words_none}
 use Rattle.listing.proofs.runs.words.Given as goal
 
 abbrev pub invariant-loop-m : goal.invariant-loop-m

@@ -1,11 +1,10 @@
-use mathlib.Core.Path.{◌≡◌, refl, ap, subst}
+use mathlib.Core.Path.{◌≡◌, ap}
 use native.Mathlib.Omega.{arith}
-use Prim.Native.Nat.{◌≤◌, ◌<◌, ◌-◌}
+use Prim.Native.Nat.{◌<◌}
 use Rattle.model.specs.Log.{start_at}
-use Rattle.logs.specs.Tests.{Begun}
 use Rattle.logs.specs.declared.view.Entry.{Entry}
 use Rattle.logs.proofs.Starts.{begun_start, begun_next}
-use Rattle.logs.proofs.Placing.{placed_entry, placed_within}
+use Rattle.logs.proofs.Placing.{placed_within}
 use borrow.Author.Rules.{rules}
 use Rattle.logs.proofs.bodies.begins.Goals as goal
 

@@ -1,7 +1,6 @@
 use mathlib.Core.Path.{refl, sym, ◌∙◌}
 use native.Mathlib.Omega.{arith}
-use Prim.Native.Nat.{◌≤◌, ◌-◌}
-use Rattle.logs.proofs.Flat.{Flat, flat_start, flat_begin, flat_next, flat_good, flat_body, flat_record}
+use Rattle.logs.proofs.Flat.{flat_start, flat_begin, flat_next, flat_good, flat_body, flat_record}
 use Rattle.rules.proofs.Faultless.{faults_kind}
 use borrow.Author.Rules.{rules}
 use Rattle.logs.proofs.bodies.count_good.Goals as goal

@@ -1,9 +1,5 @@
-use mathlib.Core.Path.{refl, sym, ◌∙◌}
-use native.Mathlib.Omega.{arith}
 use Prim.Native.Nat.{◌≤◌, ◌-◌}
-use Rattle.logs.proofs.Flat.{Flat, flat_start, flat_begin, flat_next, flat_good, flat_body, flat_record}
-use Rattle.rules.proofs.Faultless.{faults_kind}
-use borrow.Author.Rules.{rules}
+use Rattle.logs.proofs.Flat.{Flat}
 use Rattle.logs.proofs.bodies.count_good.Given as goal
 
 abbrev pub invariant-loop-i : goal.invariant-loop-i

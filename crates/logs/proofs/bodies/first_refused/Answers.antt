@@ -1,9 +1,7 @@
 use Rattle.logs.proofs.Numbers.{first_found, first_next, bodies_start}
-use Rattle.model.specs.Log.{first_number, bodies_number}
-use mathlib.Core.Path.{◌≡◌, ap, sym, ◌∙◌}
+use Rattle.model.specs.Log.{bodies_number}
 use borrow.Author.Rules.{rules}
 use native.Mathlib.Omega.{arith}
-use Prim.Native.Nat.{◌≤◌, ◌-◌}
 use Rattle.logs.proofs.bodies.first_refused.Goals as goal
 
 pub loop-t-init : goal.loop-t-init

@@ -1,8 +1,5 @@
-use Rattle.logs.proofs.Numbers.{first_found, first_next, bodies_start}
 use Rattle.model.specs.Log.{first_number, bodies_number}
-use mathlib.Core.Path.{◌≡◌, ap, sym, ◌∙◌}
-use borrow.Author.Rules.{rules}
-use native.Mathlib.Omega.{arith}
+use mathlib.Core.Path.{◌≡◌}
 use Prim.Native.Nat.{◌≤◌, ◌-◌}
 use Rattle.logs.proofs.bodies.first_refused.Given as goal
 

@@ -1,11 +1,9 @@
 use mathlib.Core.Path.{◌≡◌, ap, sym, ◌∙◌}
 use native.Mathlib.Omega.{arith}
-use Prim.Native.Nat.{◌≤◌, ◌-◌}
 use Rattle.model.specs.Log.{first_number, body_number, bodies_number, start_at, count_at}
 use Rattle.logs.specs.declared.view.Entry.{Entry}
-use Rattle.logs.proofs.Numbers.{Sofar, sofar_start, sofar_stop, sofar_key, sofar_next}
-use Rattle.logs.proofs.Placing.{placed_entry, placed_body}
-use borrow.Author.Rules.{rules}
+use Rattle.logs.proofs.Numbers.{sofar_start, sofar_stop, sofar_key, sofar_next}
+use Rattle.logs.proofs.Placing.{placed_body}
 use Rattle.logs.proofs.bodies.of_transaction.Goals as goal
 
 pub loop-m-init : goal.loop-m-init

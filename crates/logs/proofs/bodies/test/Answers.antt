@@ -1,6 +1,5 @@
 use mathlib.Core.Path.{sym, ◌∙◌}
 use Rattle.logs.proofs.Flat.{good_all}
-use borrow.Author.Rules.{rules}
 use Rattle.logs.proofs.bodies.test.Goals as goal
 
 pub returns-then-good-count : goal.returns-then-good-count

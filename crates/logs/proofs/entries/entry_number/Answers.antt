@@ -1,6 +1,5 @@
 use Rattle.logs.specs.Tests.{entry_by}
 use borrow.Author.Tests.{eq-eqb, ne_eqb, lt-ltb, le-ltb}
-use borrow.Author.Rules.{rules}
 use Rattle.logs.proofs.entries.entry_number.Goals as goal
 
 pub returns-then-e-gt15 : goal.returns-then-e-gt15

@@ -1,5 +1,4 @@
 use Rattle.logs.proofs.Numbers.{next_is}
-use borrow.Author.Rules.{rules}
 use Rattle.logs.proofs.entries.next.Goals as goal
 
 pub returns : goal.returns

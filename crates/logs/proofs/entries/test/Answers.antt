@@ -3,8 +3,6 @@ use Rattle.logs.specs.declared.entries.Summed.{Summed}
 use Rattle.logs.specs.Tests.{next_by, summed_to}
 use mathlib.Core.Path.{◌≡◌, ap, ◌∙◌}
 use native.Mathlib.Omega.{arith}
-use borrow.Author.Rules.{rules}
-use Prim.Native.Nat.{◌≤◌, ◌-◌}
 use Rattle.logs.proofs.entries.test.Goals as goal
 
 pub loop-t-init : goal.loop-t-init

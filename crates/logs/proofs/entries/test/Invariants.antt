@@ -1,9 +1,5 @@
-use Rattle.logs.proofs.Numbers.{entries_none, entries_next, sum_low}
-use Rattle.logs.specs.declared.entries.Summed.{Summed}
-use Rattle.logs.specs.Tests.{next_by, summed_to}
-use mathlib.Core.Path.{◌≡◌, ap, ◌∙◌}
-use native.Mathlib.Omega.{arith}
-use borrow.Author.Rules.{rules}
+use Rattle.logs.specs.Tests.{summed_to}
+use mathlib.Core.Path.{◌≡◌}
 use Prim.Native.Nat.{◌≤◌, ◌-◌}
 use Rattle.logs.proofs.entries.test.Given as goal
 

@@ -1,6 +1,5 @@
 use native.Mathlib.Omega.{arith}
 use Rattle.model.specs.Log.{pair_at}
-use borrow.Author.Rules.{rules}
 use Rattle.logs.proofs.fields.pair.Goals as goal
 
 pub returns : goal.returns

@@ -3,14 +3,10 @@ use Rattle.polygraph.specs.Tables.{put_at}
 use Rattle.polygraph.specs.Clock.{clock_step, with_clock}
 use Rattle.model.specs.Lists.{fold, up_to}
 use Rattle.model.specs.Times.{times}
-use Prim.Native.Nat.{◌≤◌, ◌-◌}
 use lib.ListN.{length, get_or, set}
 use lib.Bits.{bit_or}
-use mir.Val.{Fits}
-use mir.Syntax.{w32}
 use mathlib.Core.Path.{◌≡◌, ap, ◌∙◌}
 use native.Mathlib.Omega.{arith}
-use borrow.Author.Rules.{rules}
 use Rattle.polygraph.proofs.clock.add.Goals as goal
 
 pub loop-u-preserved : goal.loop-u-preserved

@@ -1,11 +1,9 @@
 use Rattle.polygraph.proofs.Timing.{word_next, word_all}
-use Rattle.model.specs.Lists.{word_of}
-use Prim.Native.Nat.{ℕ, ◌≤◌, ◌-◌}
+use Prim.Native.Nat.{ℕ}
 use lib.Dec.{ltb}
-use lib.ListN.{length, get_or}
-use mathlib.Core.Path.{◌≡◌, refl, ◌∙◌}
+use lib.ListN.{get_or}
+use mathlib.Core.Path.{◌∙◌}
 use native.Mathlib.Omega.{arith}
-use borrow.Author.Rules.{rules}
 use Rattle.polygraph.proofs.clock.after.Goals as goal
 
 pub loop-v-preserved : goal.loop-v-preserved

@@ -1,11 +1,8 @@
-use Rattle.polygraph.proofs.Timing.{word_next, word_all}
 use Rattle.model.specs.Lists.{word_of}
 use Prim.Native.Nat.{ℕ, ◌≤◌, ◌-◌}
 use lib.Dec.{ltb}
 use lib.ListN.{length, get_or}
-use mathlib.Core.Path.{◌≡◌, refl, ◌∙◌}
-use native.Mathlib.Omega.{arith}
-use borrow.Author.Rules.{rules}
+use mathlib.Core.Path.{◌≡◌}
 use Rattle.polygraph.proofs.clock.after.Given as goal
 
 abbrev pub invariant-loop-v : goal.invariant-loop-v

@@ -1,14 +1,11 @@
-use borrow.Author.Rules.{rules}
-use Prim.Native.Nat.{◌-◌}
 use native.Mathlib.Omega.{arith}
 use mathlib.Core.Path.{sym, ap, subst, ◌∙◌}
-use mathlib.Core.Logic.{⊎_elim}
 use mathlib.Core.Bool.{Bool, cond}
 use Rattle.model.specs.declared.Constraint.{Constraint}
 use Rattle.listing.proofs.Lists.{item_aimed}
 use Rattle.pruning.specs.Passes.{LowTargets}
 use Rattle.pruning.specs.Numbers.{Resolves}
-use Rattle.pruning.proofs.NumberTurns.{Passing, passing_start, passing_next, passing_end}
+use Rattle.pruning.proofs.NumberTurns.{passing_start, passing_next, passing_end}
 use Rattle.pruning.proofs.numbers.pass.Goals as goal
 use Rattle.pruning.proofs.numbers.pass.Goals.{then-drops, else-drops}
 

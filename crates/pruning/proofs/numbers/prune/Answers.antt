@@ -1,5 +1,4 @@
-use native.Mathlib.Omega.{arith}
-use Rattle.pruning.proofs.NumberTurns.{Settling, settling_start, settling_next, settling_end}
+use Rattle.pruning.proofs.NumberTurns.{settling_next, settling_end}
 use Rattle.pruning.proofs.numbers.prune.Goals as goal
 
 pub returns-then-kept-left : goal.returns-then-kept-left

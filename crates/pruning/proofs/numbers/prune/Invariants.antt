@@ -1,5 +1,4 @@
-use native.Mathlib.Omega.{arith}
-use Rattle.pruning.proofs.NumberTurns.{Settling, settling_start, settling_next, settling_end}
+use Rattle.pruning.proofs.NumberTurns.{Settling}
 use Rattle.pruning.proofs.numbers.prune.Given as goal
 
 abbrev pub invariant-loop-left : goal.invariant-loop-left

@@ -1,13 +1,9 @@
-use Rattle.replay.proofs.Alls.{all_next, all_stop, all_end, held, failed}
 use Rattle.replay.specs.Steps.{kept_by}
 use Rattle.model.specs.Log.{transactions_in}
 use Rattle.model.specs.Lists.{all, up_to}
 use lib.Dec.{T}
 use mathlib.Core.List.{List}
 use mathlib.Core.Bool.{Bool}
-use mathlib.Core.Path.{ap, ◌∙◌}
-use borrow.Author.Rules.{rules}
-use native.Mathlib.Omega.{arith}
 use Prim.Native.Nat.{ℕ, ◌≤◌, ◌-◌}
 use Rattle.replay.proofs.cabinets.keeps.Given as goal
 

@@ -1,13 +1,10 @@
 use Rattle.replay.proofs.Placing.{kept_back}
 use Rattle.model.proofs.Basics.{all_up_to_in}
-use Rattle.replay.proofs.Alls.{all_next, all_stop, all_end, held, failed}
+use Rattle.replay.proofs.Alls.{all_stop, failed}
 use Rattle.replay.specs.Steps.{kept_by}
-use Rattle.logs.proofs.Reading.{few}
-use Rattle.model.specs.Lists.{all, up_to}
-use lib.Dec.{T}
 use borrow.Author.Rules.{rules}
 use native.Mathlib.Omega.{arith}
-use Prim.Native.Nat.{◌+◌, ◌≤◌, ◌-◌}
+use Prim.Native.Nat.{◌+◌}
 use Rattle.replay.proofs.cabinets.keeps_from.Goals as goal
 
 pub loop-v-init : goal.loop-v-init

@@ -1,8 +1,6 @@
 use Rattle.replay.specs.Steps.{kept_by}
 use Rattle.logs.proofs.Reading.{inside_few}
 use mathlib.Core.Path.{sym, ◌∙◌}
-use borrow.Author.Tests.{not-true, not-false}
-use borrow.Author.Rules.{rules}
 use Rattle.replay.proofs.cabinets.keeps_pair.Goals as goal
 
 pub returns-then-not-sent_before : goal.returns-then-not-sent_before

@@ -1,8 +1,7 @@
 use Rattle.model.proofs.Loaded.{cabinet_at_lem}
 use lib.Dec.{eqb}
 use mathlib.Core.Path.{sym, ap₂, ◌∙◌}
-use borrow.Author.Tests.{lt-ltb, le-ltb}
-use borrow.Author.Rules.{rules}
+use borrow.Author.Tests.{lt-ltb}
 use Rattle.replay.proofs.cabinets.sent_before.Goals as goal
 
 pub returns : goal.returns

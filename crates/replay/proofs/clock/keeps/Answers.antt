@@ -1,14 +1,8 @@
-use Rattle.replay.proofs.Alls.{all_next, all_stop, all_end, held, failed}
+use Rattle.replay.proofs.Alls.{all_next, all_stop, held, failed}
 use Rattle.replay.specs.Steps.{clock_kept}
-use Rattle.model.specs.Lists.{all, up_to}
 use Rattle.model.specs.Times.{times}
-use Prim.Native.Nat.{◌≤◌, ◌-◌}
-use lib.Dec.{T}
 use lib.ListN.{length}
-use mir.Val.{Fits}
-use mir.Syntax.{w32}
 use native.Mathlib.Omega.{arith}
-use borrow.Author.Rules.{rules}
 use Rattle.replay.proofs.clock.keeps.Goals as goal
 
 pub returns-then-not-keeps_from : goal.returns-then-not-keeps_from

@@ -1,13 +1,6 @@
-use Rattle.replay.proofs.Alls.{all_next, all_stop, all_end, held, failed}
-use Rattle.replay.specs.Steps.{stands_after}
-use Rattle.model.specs.Lists.{all, up_to}
-use Prim.Native.Nat.{ℕ, ◌≤◌, ◌-◌}
-use lib.Dec.{T}
-use lib.ListN.{length, get_or}
-use mathlib.Core.Bool.{Bool}
-use mathlib.Core.List.{List}
+use Rattle.replay.proofs.Alls.{all_stop, failed}
+use lib.ListN.{length}
 use native.Mathlib.Omega.{arith}
-use borrow.Author.Rules.{rules}
 use Rattle.replay.proofs.clock.keeps_from.Invariants.{kept}
 use Rattle.replay.proofs.clock.keeps_from.Goals as goal
 

@@ -1,4 +1,3 @@
-use Rattle.replay.proofs.Alls.{all_next, all_stop, all_end, held, failed}
 use Rattle.replay.specs.Steps.{stands_after}
 use Rattle.model.specs.Lists.{all, up_to}
 use Prim.Native.Nat.{ℕ, ◌≤◌, ◌-◌}
@@ -6,8 +5,6 @@ use lib.Dec.{T}
 use lib.ListN.{length, get_or}
 use mathlib.Core.Bool.{Bool}
 use mathlib.Core.List.{List}
-use native.Mathlib.Omega.{arith}
-use borrow.Author.Rules.{rules}
 use Rattle.replay.proofs.clock.keeps_from.Given as goal
 
 abbrev pub kept : List ℕ → ℕ → List ℕ → ℕ → ℕ → Bool

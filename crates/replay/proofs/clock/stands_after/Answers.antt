@@ -1,6 +1,5 @@
 use Rattle.replay.specs.Steps.{stands_after}
 use borrow.Author.Tests.{lt-ltb, le-ltb}
-use borrow.Author.Rules.{rules}
 use Rattle.replay.proofs.clock.stands_after.Goals as goal
 
 pub returns-then-moment-begin : goal.returns-then-moment-begin

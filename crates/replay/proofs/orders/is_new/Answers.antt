@@ -2,7 +2,6 @@ use Rattle.replay.specs.Orders.{is_new}
 use mathlib.Core.Bool.{not}
 use mathlib.Core.Path.{ap}
 use borrow.Author.Tests.{lt-ltb, le-ltb}
-use borrow.Author.Rules.{rules}
 use Rattle.replay.proofs.orders.is_new.Goals as goal
 
 pub returns-then-x-n : goal.returns-then-x-n

@@ -1,10 +1,10 @@
 use Rattle.replay.proofs.Ordering.{Upto, upto_none, upto_next, upto_stop, upto_end, order_long, new_low}
 use Rattle.replay.proofs.Alls.{held, failed}
-use lib.ListN.{length, get_or}
+use lib.ListN.{get_or}
 use mathlib.Core.Path.{sym, subst}
 use borrow.Author.Rules.{rules}
 use native.Mathlib.Omega.{arith}
-use Prim.Native.Nat.{◌+◌, ◌≤◌, ◌-◌}
+use Prim.Native.Nat.{◌+◌}
 use Rattle.replay.proofs.orders.is_order.Goals as goal
 
 pub returns-then-list-n : goal.returns-then-list-n

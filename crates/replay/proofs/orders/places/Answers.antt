@@ -1,9 +1,8 @@
-use Rattle.replay.proofs.Placing.{Upto, upto_none, upto_next, upto_all}
-use lib.ListN.{length, get_or, length-set}
-use mathlib.Core.Path.{◌≡◌, refl, ◌∙◌}
+use Rattle.replay.proofs.Placing.{upto_next}
+use lib.ListN.{get_or, length-set}
+use mathlib.Core.Path.{◌∙◌}
 use borrow.Author.Rules.{rules}
 use native.Mathlib.Omega.{arith}
-use Prim.Native.Nat.{◌≤◌, ◌-◌}
 use Rattle.replay.proofs.orders.places.Goals as goal
 
 pub loop-i-preserved : goal.loop-i-preserved

@@ -1,8 +1,6 @@
-use Rattle.replay.proofs.Placing.{Upto, upto_none, upto_next, upto_all}
-use lib.ListN.{length, get_or, length-set}
-use mathlib.Core.Path.{◌≡◌, refl, ◌∙◌}
-use borrow.Author.Rules.{rules}
-use native.Mathlib.Omega.{arith}
+use Rattle.replay.proofs.Placing.{Upto}
+use lib.ListN.{length}
+use mathlib.Core.Path.{◌≡◌}
 use Prim.Native.Nat.{◌≤◌, ◌-◌}
 use Rattle.replay.proofs.orders.places.Given as goal
 

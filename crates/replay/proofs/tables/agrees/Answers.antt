@@ -1,6 +1,5 @@
 use Rattle.replay.specs.Steps.{agrees_by}
 use borrow.Author.Tests.{eq-eqb, ne_eqb}
-use borrow.Author.Rules.{rules}
 use Rattle.replay.proofs.tables.agrees.Goals as goal
 
 pub returns-then-o-ne0 : goal.returns-then-o-ne0

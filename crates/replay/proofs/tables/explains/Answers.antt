@@ -1,17 +1,14 @@
-use Rattle.replay.proofs.Running.{ran_by, ran_none, ran_next, agrees_at, agrees_by_lem, explains_is}
+use Rattle.replay.proofs.Running.{ran_none, ran_next, agrees_at, agrees_by_lem, explains_is}
 use Rattle.replay.proofs.Placing.{order_in_log}
 use Rattle.replay.proofs.Alls.{all_next, all_stop, all_end, held, failed}
 use Rattle.replay.specs.Steps.{stored_by}
 use Rattle.model.proofs.Places.{order_out}
 use Rattle.model.specs.Log.{transactions_in, history_of}
-use Rattle.model.specs.Lists.{all, up_to}
-use lib.ListN.{length, get_or, take, replicate}
-use lib.Dec.{T}
+use lib.ListN.{length, get_or, replicate}
 use mathlib.Core.Bool.{true}
-use mathlib.Core.Path.{◌≡◌, ap, ◌∙◌}
+use mathlib.Core.Path.{ap, ◌∙◌}
 use borrow.Author.Rules.{rules}
 use native.Mathlib.Omega.{arith}
-use Prim.Native.Nat.{◌≤◌, ◌-◌}
 use Rattle.replay.proofs.tables.explains.Goals as goal
 
 pub loop-i-init : goal.loop-i-init

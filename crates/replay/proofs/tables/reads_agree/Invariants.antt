@@ -1,16 +1,8 @@
-use Rattle.replay.proofs.Running.{passes, passes_by, written_next, reads_are}
-use Rattle.replay.proofs.Alls.{all_next, all_stop, all_end, held, failed}
-use Rattle.logs.proofs.Reading.{operation_is}
+use Rattle.replay.proofs.Running.{passes}
 use Rattle.model.proofs.Loaded.{operation_of}
-use Rattle.model.proofs.Masks.{bit_none}
-use Rattle.model.proofs.ReadBacks.{Wrote, wrote_none}
-use Rattle.model.specs.Log.{count_at}
+use Rattle.model.proofs.ReadBacks.{Wrote}
 use Rattle.model.specs.Lists.{all, up_to, bit}
-use mathlib.Core.Path.{ap₂, ◌∙◌}
-use mathlib.Core.Bool.{◌||◌}
 use lib.Dec.{T}
-use borrow.Author.Rules.{rules}
-use native.Mathlib.Omega.{arith}
 use Prim.Native.Nat.{◌≤◌, ◌-◌}
 use Rattle.replay.proofs.tables.reads_agree.Given as goal
 

@@ -1,9 +1,7 @@
-use Rattle.replay.proofs.Running.{stored_to, stored_none, put_is, stored_all}
+use Rattle.replay.proofs.Running.{stored_none, put_is, stored_all}
 use Rattle.logs.proofs.Reading.{inside_few, operation_is}
-use mathlib.Core.Path.{◌≡◌, ◌∙◌}
-use borrow.Author.Rules.{rules}
+use mathlib.Core.Path.{◌∙◌}
 use native.Mathlib.Omega.{arith}
-use Prim.Native.Nat.{◌≤◌, ◌-◌}
 use Rattle.replay.proofs.tables.store.Goals as goal
 
 pub loop-m-init : goal.loop-m-init

@@ -1,8 +1,5 @@
-use Rattle.replay.proofs.Running.{stored_to, stored_none, put_is, stored_all}
-use Rattle.logs.proofs.Reading.{inside_few, operation_is}
-use mathlib.Core.Path.{◌≡◌, ◌∙◌}
-use borrow.Author.Rules.{rules}
-use native.Mathlib.Omega.{arith}
+use Rattle.replay.proofs.Running.{stored_to}
+use mathlib.Core.Path.{◌≡◌}
 use Prim.Native.Nat.{◌≤◌, ◌-◌}
 use Rattle.replay.proofs.tables.store.Given as goal
 

@@ -1,13 +1,12 @@
-use Rattle.replay.proofs.Running.{ran_by, ran_none, ran_next, ran_table}
+use Rattle.replay.proofs.Running.{ran_none, ran_next, ran_table}
 use Rattle.replay.proofs.Placing.{order_in_log}
 use Rattle.replay.specs.Steps.{stored_by}
 use Rattle.model.specs.Log.{history_of}
-use lib.ListN.{length, get_or, take}
+use lib.ListN.{get_or}
 use mathlib.Core.Bool.{false}
-use mathlib.Core.Path.{◌≡◌, ap, ◌∙◌}
+use mathlib.Core.Path.{ap, ◌∙◌}
 use borrow.Author.Rules.{rules}
 use native.Mathlib.Omega.{arith}
-use Prim.Native.Nat.{◌≤◌, ◌-◌}
 use Rattle.replay.proofs.tables.table.Goals as goal
 
 pub loop-i-init : goal.loop-i-init

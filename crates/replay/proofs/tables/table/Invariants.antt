@@ -1,12 +1,7 @@
-use Rattle.replay.proofs.Running.{ran_by, ran_none, ran_next, ran_table}
-use Rattle.replay.proofs.Placing.{order_in_log}
-use Rattle.replay.specs.Steps.{stored_by}
-use Rattle.model.specs.Log.{history_of}
-use lib.ListN.{length, get_or, take}
+use Rattle.replay.proofs.Running.{ran_by}
+use lib.ListN.{length, take}
 use mathlib.Core.Bool.{false}
-use mathlib.Core.Path.{◌≡◌, ap, ◌∙◌}
-use borrow.Author.Rules.{rules}
-use native.Mathlib.Omega.{arith}
+use mathlib.Core.Path.{◌≡◌}
 use Prim.Native.Nat.{◌≤◌, ◌-◌}
 use Rattle.replay.proofs.tables.table.Given as goal
 

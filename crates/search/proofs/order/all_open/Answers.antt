@@ -1,7 +1,7 @@
-use Rattle.search.proofs.Opens.{Opening, opening_none, opening_next, opening_end}
-use Prim.Native.Nat.{ℕ, ◌+◌, ◌/◌, ◌≤◌, ◌-◌}
+use Rattle.search.proofs.Opens.{opening_none, opening_next, opening_end}
+use Prim.Native.Nat.{ℕ}
 use native.Mathlib.Omega.{arith}
-use mathlib.Core.Path.{◌≡◌, refl, sym, ap, subst, ◌∙◌}
+use mathlib.Core.Path.{refl, sym, ap, subst, ◌∙◌}
 use mathlib.Core.List.{List}
 use lib.Dec.{T, eqb}
 use lib.ListN.{length, length-replicate}

@@ -1,7 +1,4 @@
 use Rattle.search.proofs.Leads.{under_none, under_next}
-use Rattle.search.specs.Orders.{Under}
-use Prim.Native.Nat.{ℕ, ◌≤◌, ◌-◌}
-use mathlib.Core.Path.{◌≡◌, subst}
 use native.Mathlib.Omega.{arith}
 use Rattle.search.proofs.order.below.Goals as goal
 

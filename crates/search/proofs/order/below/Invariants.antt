@@ -1,8 +1,5 @@
-use Rattle.search.proofs.Leads.{under_none, under_next}
 use Rattle.search.specs.Orders.{Under}
-use Prim.Native.Nat.{ℕ, ◌≤◌, ◌-◌}
-use mathlib.Core.Path.{◌≡◌, subst}
-use native.Mathlib.Omega.{arith}
+use Prim.Native.Nat.{◌≤◌, ◌-◌}
 use Rattle.search.proofs.order.below.Given as goal
 
 abbrev pub invariant-loop-u : goal.invariant-loop-u

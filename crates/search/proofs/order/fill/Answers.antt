@@ -1,6 +1,5 @@
 use Rattle.search.proofs.Words.{one_less}
-use Rattle.search.proofs.Fills.{Filling, filling_none, filling_open, filling_next, filling_end}
-use Prim.Native.Nat.{◌-◌}
+use Rattle.search.proofs.Fills.{filling_none, filling_open, filling_next, filling_end}
 use mathlib.Core.Path.{refl}
 use native.Mathlib.Omega.{arith}
 use Rattle.search.proofs.order.fill.Goals as goal

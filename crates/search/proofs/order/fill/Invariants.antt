@@ -1,8 +1,5 @@
-use Rattle.search.proofs.Words.{one_less}
-use Rattle.search.proofs.Fills.{Filling, filling_none, filling_open, filling_next, filling_end}
+use Rattle.search.proofs.Fills.{Filling}
 use Prim.Native.Nat.{◌-◌}
-use mathlib.Core.Path.{refl}
-use native.Mathlib.Omega.{arith}
 use Rattle.search.proofs.order.fill.Given as goal
 
 abbrev pub invariant-loop-k : goal.invariant-loop-k

@@ -1,7 +1,5 @@
-use mathlib.Core.Path.{refl}
 use native.Mathlib.Omega.{arith}
-use Rattle.search.proofs.Firsts.{first_ready, first_stuck, pruned_ready, light_ready, first_alone, first_lowest, first_none, first_begins, first_some}
-use borrow.Author.Rules.{rules}
+use Rattle.search.proofs.Firsts.{first_alone, first_lowest, first_begins}
 use Rattle.search.proofs.order.first_closed.Goals as goal
 
 pub lowest_first-order-requires : goal.lowest_first-order-requires

@@ -4,7 +4,6 @@ use mathlib.Core.Bool.{Bool, cond}
 use mathlib.Core.Path.{sym, ap, ◌∙◌}
 use Rattle.model.specs.Lists.{bit}
 use Rattle.search.specs.Orders.{led_row}
-use borrow.Author.Rules.{rules}
 use Rattle.search.proofs.order.lead_row.Goals as goal
 
 pub returns-then-has : goal.returns-then-has

@@ -1,7 +1,3 @@
-use native.Mathlib.Omega.{arith}
-use Rattle.search.proofs.Counts.{open_next}
-use Rattle.search.proofs.Lights.{lighter_none, lighter_next}
-use Rattle.search.proofs.Steps.{nodes_of, room_at}
 use Prim.Native.Nat.{◌≤◌, ◌-◌}
 use Rattle.search.specs.Orders.{Lighter}
 use Rattle.search.proofs.order.lighter.Given as goal

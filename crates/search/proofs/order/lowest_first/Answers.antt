@@ -1,6 +1,5 @@
 use Rattle.search.proofs.Words.{one_less}
-use Rattle.search.proofs.Lowest.{Lowest, lowest_none, lowest_small, lowest_next_lem, lowest_end}
-use Prim.Native.Nat.{◌-◌}
+use Rattle.search.proofs.Lowest.{lowest_none, lowest_small, lowest_next_lem, lowest_end}
 use mathlib.Core.Path.{refl}
 use native.Mathlib.Omega.{arith}
 use mir.Syntax.{w32}

@@ -1,12 +1,10 @@
 use lib.Dec.{ltb}
-use lib.Pow.{pow_pos}
 use native.Mathlib.Omega.{arith}
-use mathlib.Core.Path.{sym, ap, subst, ◌∙◌}
-use Prim.Native.Nat.{ℕ, ◌-◌, ◌≤◌, ◌<◌}
+use mathlib.Core.Path.{sym, ap, ◌∙◌}
+use Prim.Native.Nat.{ℕ, ◌-◌, ◌<◌}
 use Rattle.model.specs.Lists.{bit}
 use Rattle.graph.proofs.Rows.{one_shl}
 use Rattle.search.proofs.Words.{ones}
-use borrow.Author.Rules.{rules}
 use Rattle.search.proofs.order.numbers.Goals as goal
 
 pub returns-then-t-eq32 : goal.returns-then-t-eq32

@@ -1,6 +1,4 @@
-use native.Mathlib.Omega.{arith}
-use Rattle.search.proofs.Words.{word_none, word_all, word_some}
-use borrow.Author.Rules.{rules}
+use Rattle.search.proofs.Words.{word_none}
 use Rattle.search.proofs.order.open_word.Goals as goal
 
 pub returns-then-w-n : goal.returns-then-w-n

@@ -1,11 +1,10 @@
-use mathlib.Core.Path.{◌≡◌, sym, ap, ap₂, ◌∙◌}
+use mathlib.Core.Path.{sym, ap, ap₂, ◌∙◌}
 use mathlib.Core.Bool.{Bool, not, ◌&&◌}
 use Prim.Native.Nat.{◌^◌}
 use lib.Dec.{eqb}
 use borrow.Author.Tests.{eq-eqb, ne_eqb}
 use Rattle.graph.proofs.Rows.{one_shl}
 use Rattle.search.specs.Orders.{opposed}
-use borrow.Author.Rules.{rules}
 use Rattle.search.proofs.order.opposite.Goals as goal
 
 pub returns-then-k : goal.returns-then-k

@@ -1,7 +1,4 @@
-use Rattle.search.proofs.Picks.{Picking, picking_none, candidate, left_over, lowest_cand, picked_free, picking_ready, picked_walk, picking_next}
-use mir.Syntax.{w32}
-use mir.Val.{Fits}
-use borrow.Author.Rules.{rules}
+use Rattle.search.proofs.Picks.{Picking}
 use Rattle.search.proofs.order.pick.Given as goal
 
 abbrev pub invariant-loop-d : goal.invariant-loop-d

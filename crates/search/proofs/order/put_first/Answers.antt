@@ -1,8 +1,5 @@
 use Rattle.search.proofs.Leads.{placed}
 use Rattle.search.proofs.Words.{one_less}
-use Rattle.search.specs.Orders.{led_row}
-use Rattle.graph.proofs.Sweeps.{Swept, swept_start, swept_next}
-use Prim.Native.Nat.{◌-◌}
 use mathlib.Core.Path.{◌≡◌}
 use native.Mathlib.Omega.{arith}
 use mir.Syntax.{w32}

@@ -1,13 +1,6 @@
-use Rattle.search.proofs.Leads.{placed}
-use Rattle.search.proofs.Words.{one_less}
 use Rattle.search.specs.Orders.{led_row}
-use Rattle.graph.proofs.Sweeps.{Swept, swept_start, swept_next}
+use Rattle.graph.proofs.Sweeps.{Swept}
 use Prim.Native.Nat.{◌-◌}
-use mathlib.Core.Path.{◌≡◌}
-use native.Mathlib.Omega.{arith}
-use mir.Syntax.{w32}
-use mir.Val.{Fits}
-use borrow.Author.Rules.{rules}
 use Rattle.search.proofs.order.put_first.Given as goal
 
 abbrev pub invariant-loop-i : goal.invariant-loop-i

@@ -1,9 +1,5 @@
 use native.Mathlib.Omega.{arith}
-use Prim.Native.Nat.{◌≤◌, ◌-◌}
-use mathlib.Core.Path.{◌≡◌, sym, ◌∙◌}
-use Rattle.writer.specs.Again.{again_notes}
 use Rattle.writer.proofs.Renoting.{again_none, again_more, again_refused, again_done}
-use borrow.Author.Rules.{rules}
 use Rattle.writer.proofs.Notes.again.Goals as goal
 
 pub returns-then-number-ne0 : goal.returns-then-number-ne0

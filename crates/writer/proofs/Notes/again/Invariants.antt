@@ -1,9 +1,6 @@
-use native.Mathlib.Omega.{arith}
 use Prim.Native.Nat.{◌≤◌, ◌-◌}
-use mathlib.Core.Path.{◌≡◌, sym, ◌∙◌}
+use mathlib.Core.Path.{◌≡◌}
 use Rattle.writer.specs.Again.{again_notes}
-use Rattle.writer.proofs.Renoting.{again_none, again_more, again_refused, again_done}
-use borrow.Author.Rules.{rules}
 use Rattle.writer.proofs.Notes.again.Given as goal
 
 abbrev pub invariant-loop-t : goal.invariant-loop-t

@@ -1,6 +1,5 @@
 use Rattle.writer.specs.Calls.{closing, closed_notes}
 use Rattle.writer.proofs.Answering.{refused, taken}
-use borrow.Author.Rules.{rules}
 use Rattle.writer.proofs.Notes.close.Goals as goal
 
 pub returns-then-number-ne0 : goal.returns-then-number-ne0

@@ -3,7 +3,6 @@ use mathlib.Core.Path.{sym, ◌∙◌}
 use Rattle.writer.specs.Calls.{noting}
 use Rattle.writer.proofs.Answering.{refused}
 use Rattle.writer.proofs.Holding.{noted_is, note_room, note_taken}
-use borrow.Author.Rules.{rules}
 use Rattle.writer.proofs.Notes.note.Goals as goal
 
 pub returns-then-number-ne0 : goal.returns-then-number-ne0

@@ -1,6 +1,5 @@
 use mathlib.Core.Path.{refl}
 use Rattle.writer.specs.Calls.{noted_at}
-use borrow.Author.Rules.{rules}
 use Rattle.writer.proofs.Notes.noted_at.Goals as goal
 
 pub returns : goal.returns

@@ -3,7 +3,6 @@ use native.Mathlib.Omega.{arith}
 use Rattle.writer.specs.Calls.{opening, opened_notes}
 use Rattle.writer.proofs.Answering.{refused, taken}
 use Rattle.writer.proofs.Holding.{open_room}
-use borrow.Author.Rules.{rules}
 use Rattle.writer.proofs.Notes.open.Goals as goal
 
 pub returns-then-number-ne0 : goal.returns-then-number-ne0

@@ -1,6 +1,5 @@
 use mathlib.Core.Path.{sym, ◌∙◌}
 use Rattle.writer.proofs.Holding.{room_of, write_room, write_refused, write_taken}
-use borrow.Author.Rules.{rules}
 use Rattle.writer.proofs.Notes.write.Goals as goal
 
 pub returns-then-number-ne0-clause-result : goal.returns-then-number-ne0-clause-result

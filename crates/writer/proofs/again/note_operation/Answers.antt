@@ -1,6 +1,5 @@
 use mathlib.Core.Path.{sym}
 use Rattle.writer.proofs.Renoting.{noted_as, is_write_lem}
-use borrow.Author.Rules.{rules}
 use Rattle.writer.proofs.again.note_operation.Goals as goal
 
 pub returns-then-o-eq0 : goal.returns-then-o-eq0

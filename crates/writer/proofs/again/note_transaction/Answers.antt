@@ -1,9 +1,5 @@
 use native.Mathlib.Omega.{arith}
-use Prim.Native.Nat.{◌≤◌, ◌-◌, ◌+◌, ◌*◌}
-use mathlib.Core.Path.{◌≡◌}
-use Rattle.writer.specs.Again.{operations_noted}
 use Rattle.writer.proofs.Renoting.{none_noted, more_noted, transaction_noted}
-use borrow.Author.Rules.{rules}
 use Rattle.writer.proofs.again.note_transaction.Goals as goal
 
 pub loop-m-init : goal.loop-m-init

@@ -1,8 +1,5 @@
-use native.Mathlib.Omega.{arith}
 use Prim.Native.Nat.{◌≤◌, ◌<◌, ◌-◌, ℕ}
 use Rattle.writer.specs.Rows.{at}
-use Rattle.writer.proofs.Counting.{narrow_in, narrow_not, narrow_more}
-use borrow.Author.Rules.{rules}
 use Rattle.writer.proofs.counts.narrow.Given as goal
 
 abbrev pub invariant-loop-t : goal.invariant-loop-t

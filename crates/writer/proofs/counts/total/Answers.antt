@@ -1,11 +1,7 @@
 use native.Mathlib.Omega.{arith}
-use Prim.Native.Nat.{◌≤◌, ◌*◌, ◌-◌}
-use mathlib.Core.Path.{◌≡◌, ap, sym, ◌∙◌}
-use Rattle.model.specs.Writing.{sum_of}
+use mathlib.Core.Path.{sym}
 use Rattle.model.proofs.Writing.{sum_none}
-use Rattle.writer.specs.Rows.{at}
 use Rattle.writer.proofs.Counting.{total_next}
-use borrow.Author.Rules.{rules}
 use Rattle.writer.proofs.counts.total.Goals as goal
 
 pub loop-t-init : goal.loop-t-init

@@ -1,9 +1,7 @@
 use native.Mathlib.Omega.{arith}
-use Prim.Native.Nat.{◌≤◌, ◌-◌}
-use mathlib.Core.Path.{◌≡◌, ap, sym, ◌∙◌}
-use Rattle.writer.specs.Rows.{over, body_rows}
-use Rattle.writer.proofs.Laying.{over_none, bodies_none, body_laid, bodies_room}
-use borrow.Author.Rules.{rules}
+use mathlib.Core.Path.{ap, sym, ◌∙◌}
+use Rattle.writer.specs.Rows.{over}
+use Rattle.writer.proofs.Laying.{over_none, bodies_none, body_laid}
 use Rattle.writer.proofs.rows.put_bodies.Goals as goal
 
 pub loop-i-init : goal.loop-i-init

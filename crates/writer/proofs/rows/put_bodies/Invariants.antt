@@ -1,9 +1,6 @@
-use native.Mathlib.Omega.{arith}
 use Prim.Native.Nat.{◌≤◌, ◌-◌}
-use mathlib.Core.Path.{◌≡◌, ap, sym, ◌∙◌}
+use mathlib.Core.Path.{◌≡◌}
 use Rattle.writer.specs.Rows.{over, body_rows}
-use Rattle.writer.proofs.Laying.{over_none, bodies_none, body_laid, bodies_room}
-use borrow.Author.Rules.{rules}
 use Rattle.writer.proofs.rows.put_bodies.Given as goal
 
 abbrev pub invariant-loop-i : goal.invariant-loop-i

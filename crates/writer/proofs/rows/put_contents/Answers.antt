@@ -1,6 +1,4 @@
-use native.Mathlib.Omega.{arith}
-use Rattle.writer.proofs.Laying.{laid_length, contents_laid}
-use borrow.Author.Rules.{rules}
+use Rattle.writer.proofs.Laying.{contents_laid}
 use Rattle.writer.proofs.rows.put_contents.Goals as goal
 
 pub returns : goal.returns

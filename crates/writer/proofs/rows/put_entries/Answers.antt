@@ -1,12 +1,9 @@
 use native.Mathlib.Omega.{arith}
-use Prim.Native.Nat.{◌≤◌, ◌-◌}
-use mathlib.Core.Path.{◌≡◌, ap, sym, ◌∙◌}
-use Rattle.model.specs.Writing.{sum_of}
+use mathlib.Core.Path.{ap, sym, ◌∙◌}
 use Rattle.model.proofs.Writing.{sum_none}
-use Rattle.writer.specs.Rows.{at, over, entry_rows}
+use Rattle.writer.specs.Rows.{over}
 use Rattle.writer.proofs.Laying.{over_none, entries_none, entry_laid, entries_room, narrow_out, narrow_sum}
 use Rattle.writer.proofs.Counting.{total_next}
-use borrow.Author.Rules.{rules}
 use Rattle.writer.proofs.rows.put_entries.Goals as goal
 
 pub loop-t-init : goal.loop-t-init

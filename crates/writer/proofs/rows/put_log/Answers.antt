@@ -1,7 +1,6 @@
 use native.Mathlib.Omega.{arith}
 use mathlib.Core.Path.{refl}
 use Rattle.writer.proofs.Holding.{room_out, noted_is, held_length, part_fits, part_long, parts_laid}
-use borrow.Author.Rules.{rules}
 use Rattle.writer.proofs.rows.put_log.Goals as goal
 
 pub total-m-requires : goal.total-m-requires

@@ -1,7 +1,4 @@
 use Rattle.writer.proofs.Laying.{row_laid}
-use lib.ListN.{length-set}
-use native.Mathlib.Omega.{arith}
-use borrow.Author.Rules.{rules}
 use Rattle.writer.proofs.rows.put_row.Goals as goal
 
 pub returns : goal.returns

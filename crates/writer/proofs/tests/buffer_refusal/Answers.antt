@@ -1,9 +1,8 @@
 use native.Mathlib.Omega.{arith}
-use borrow.Author.Tests.{lt-ltb, le-ltb, not-true, not-false}
+use borrow.Author.Tests.{lt-ltb, le-ltb}
 use lib.ListN.{length}
 use Rattle.writer.specs.Held.{held_log}
-use Rattle.writer.proofs.Holding.{room_by, room_not, noted_is, held_length}
-use borrow.Author.Rules.{rules}
+use Rattle.writer.proofs.Holding.{room_by, noted_is, held_length}
 use Rattle.writer.proofs.tests.buffer_refusal.Goals as goal
 
 pub overflow_mul-n : goal.overflow_mul-n

@@ -1,6 +1,5 @@
 use mathlib.Core.Path.{sym, ◌∙◌}
 use Rattle.writer.specs.Calls.{close_refusal}
-use borrow.Author.Rules.{rules}
 use Rattle.writer.proofs.tests.close_refusal.Goals as goal
 
 pub returns-then-is_open : goal.returns-then-is_open

@@ -1,10 +1,8 @@
 use native.Mathlib.Omega.{arith}
 use mathlib.Core.Path.{sym, ◌∙◌}
-use borrow.Author.Tests.{not-true, not-false}
 use lib.Seq.{length-take-le}
 use Rattle.writer.proofs.Laying.{laid_length}
 use Rattle.writer.proofs.Holding.{no_log, log_is, fits}
-use borrow.Author.Rules.{rules}
 use Rattle.writer.proofs.tests.has_log.Goals as goal
 
 pub returns-then-not-in_room : goal.returns-then-not-in_room

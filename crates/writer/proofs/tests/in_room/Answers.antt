@@ -1,5 +1,4 @@
 use Rattle.writer.proofs.Holding.{beyond_transactions, beyond_operations, by_bytes}
-use borrow.Author.Rules.{rules}
 use Rattle.writer.proofs.tests.in_room.Goals as goal
 
 pub returns-then-n-gt32 : goal.returns-then-n-gt32

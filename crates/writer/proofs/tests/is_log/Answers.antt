@@ -1,6 +1,5 @@
 use native.Mathlib.Omega.{arith}
 use Rattle.model.proofs.Logs.{is_log_by}
-use borrow.Author.Rules.{rules}
 use Rattle.writer.proofs.tests.is_log.Goals as goal
 
 pub returns : goal.returns

@@ -1,10 +1,9 @@
 use mathlib.Core.Path.{sym, ◌∙◌}
 use native.Mathlib.Omega.{arith}
-use borrow.Author.Tests.{lt-ltb, le-ltb, not-true, not-false}
+use borrow.Author.Tests.{lt-ltb, le-ltb}
 use Rattle.writer.specs.Held.{noted_in}
 use Rattle.writer.specs.Calls.{note_refusal}
 use Rattle.writer.proofs.Holding.{noted_is}
-use borrow.Author.Rules.{rules}
 use Rattle.writer.proofs.tests.note_refusal.Goals as goal
 
 pub returns-then-not-is_open : goal.returns-then-not-is_open

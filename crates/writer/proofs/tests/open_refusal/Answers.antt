@@ -1,7 +1,6 @@
 use mathlib.Core.Path.{sym, ◌∙◌}
 use borrow.Author.Tests.{lt-ltb, le-ltb}
 use Rattle.writer.specs.Calls.{open_refusal}
-use borrow.Author.Rules.{rules}
 use Rattle.writer.proofs.tests.open_refusal.Goals as goal
 
 pub returns-then-is_open : goal.returns-then-is_open

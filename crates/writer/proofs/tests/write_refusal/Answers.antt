@@ -1,7 +1,6 @@
 use mathlib.Core.Path.{sym, ◌∙◌}
 use Rattle.writer.specs.Calls.{write_refusal}
 use Rattle.writer.proofs.Holding.{write_number}
-use borrow.Author.Rules.{rules}
 use Rattle.writer.proofs.tests.write_refusal.Goals as goal
 
 pub returns-then-open : goal.returns-then-open
