@@ -10,25 +10,23 @@ use Rattle.codes.specs.Images.{values_in}
 use Rattle.codes.proofs.Billing.{bills_refused_lem, bills_short, start_64, log_taken, orders, bills_written}
 use Rattle.host.proofs.beaconcrumb_bills.Goals as goal
 
-pub returns-then-code-ne0-clause-result : goal.returns-then-code-ne0-clause-result
-returns-then-code-ne0-clause-result c =
+pub returns-then-code-ne0 : goal.returns-then-code-ne0
+returns-then-code-ne0 c =
     let a = c.args in
-    (bills_refused_lem a.log.now a.start.now a.begin.now a.end.now a.drift (replicate 32 0) (replicate 64 0) (omega arith) (omega arith) _ c.beaconcrumb_decide_strict-code.ensures.result a.out.now c.if-code-ne0.true).0
+    let all = bills_refused_lem a.log.now a.start.now a.begin.now a.end.now a.drift (replicate 32 0) (replicate 64 0) (omega arith) (omega arith) _ c.beaconcrumb_decide_strict-code.ensures.result a.out.now c.if-code-ne0.true in
+    record {
+      result = all.0;
+      list = all.1;
+    }
 
-pub returns-then-code-ne0-clause-list : goal.returns-then-code-ne0-clause-list
-returns-then-code-ne0-clause-list c =
+pub returns-then-out-lt192 : goal.returns-then-out-lt192
+returns-then-out-lt192 c =
     let a = c.args in
-    (bills_refused_lem a.log.now a.start.now a.begin.now a.end.now a.drift (replicate 32 0) (replicate 64 0) (omega arith) (omega arith) _ c.beaconcrumb_decide_strict-code.ensures.result a.out.now c.if-code-ne0.true).1
-
-pub returns-then-out-lt192-clause-result : goal.returns-then-out-lt192-clause-result
-returns-then-out-lt192-clause-result c =
-    let a = c.args in
-    (bills_short a.log.now a.start.now a.begin.now a.end.now a.drift (replicate 32 0) (replicate 64 0) (omega arith) (omega arith) _ c.beaconcrumb_decide_strict-code.ensures.result a.out.now c.if-code-ne0.false c.if-out-lt192.true).0
-
-pub returns-then-out-lt192-clause-list : goal.returns-then-out-lt192-clause-list
-returns-then-out-lt192-clause-list c =
-    let a = c.args in
-    (bills_short a.log.now a.start.now a.begin.now a.end.now a.drift (replicate 32 0) (replicate 64 0) (omega arith) (omega arith) _ c.beaconcrumb_decide_strict-code.ensures.result a.out.now c.if-code-ne0.false c.if-out-lt192.true).1
+    let all = bills_short a.log.now a.start.now a.begin.now a.end.now a.drift (replicate 32 0) (replicate 64 0) (omega arith) (omega arith) _ c.beaconcrumb_decide_strict-code.ensures.result a.out.now c.if-code-ne0.false c.if-out-lt192.true in
+    record {
+      result = all.0;
+      list = all.1;
+    }
 
 pub transactions-n-requires : goal.transactions-n-requires
 transactions-n-requires c =
@@ -50,20 +48,15 @@ bills-bills-requires c =
           (orders a.log.now a.start.now a.begin.now a.end.now a.drift (replicate 32 0) (replicate 64 0) (omega arith) (omega arith) _ c.beaconcrumb_decide_strict-code.ensures.result a.out.now z order c.beaconcrumb_decide_strict-code.ensures.order),
     )
 
-pub returns-clause-result : goal.returns-clause-result
-returns-clause-result c =
+pub returns : goal.returns
+returns c =
     let a = c.args in
     let order = c.beaconcrumb_decide_strict-code.new.order in
-    (bills_written a.log.now a.start.now a.begin.now a.end.now a.drift (replicate 32 0) (replicate 64 0) (omega arith) (omega arith) _ c.beaconcrumb_decide_strict-code.ensures.result a.out.now c.if-code-ne0.false order c.beaconcrumb_decide_strict-code.ensures.order c.if-out-lt192.false _
+    let all = bills_written a.log.now a.start.now a.begin.now a.end.now a.drift (replicate 32 0) (replicate 64 0) (omega arith) (omega arith) _ c.beaconcrumb_decide_strict-code.ensures.result a.out.now c.if-code-ne0.false order c.beaconcrumb_decide_strict-code.ensures.order c.if-out-lt192.false _
     (c.bills-bills.ensures ∙ ap (λ vs. bills_of (moves (history_of a.log.now) vs (take c.transactions-n.result order))) c.values-values.ensures
     ∙ ap (λ n. bills_of (moves (history_of a.log.now) (values_in a.start.now) (take n order))) c.transactions-n.ensures.0)
-    _ c.put_bills.ensures).0
-
-pub returns-clause-list : goal.returns-clause-list
-returns-clause-list c =
-    let a = c.args in
-    let order = c.beaconcrumb_decide_strict-code.new.order in
-    (bills_written a.log.now a.start.now a.begin.now a.end.now a.drift (replicate 32 0) (replicate 64 0) (omega arith) (omega arith) _ c.beaconcrumb_decide_strict-code.ensures.result a.out.now c.if-code-ne0.false order c.beaconcrumb_decide_strict-code.ensures.order c.if-out-lt192.false _
-    (c.bills-bills.ensures ∙ ap (λ vs. bills_of (moves (history_of a.log.now) vs (take c.transactions-n.result order))) c.values-values.ensures
-    ∙ ap (λ n. bills_of (moves (history_of a.log.now) (values_in a.start.now) (take n order))) c.transactions-n.ensures.0)
-    _ c.put_bills.ensures).1
+    _ c.put_bills.ensures in
+    record {
+      result = all.0;
+      list = all.1;
+    }

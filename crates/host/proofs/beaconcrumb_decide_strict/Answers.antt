@@ -7,35 +7,25 @@ use Rattle.codes.proofs.Timing.{lengths_read}
 use borrow.Author.Rules.{rules}
 use Rattle.host.proofs.beaconcrumb_decide_strict.Goals as goal
 
-pub returns-then-start-ne64-clause-result : goal.returns-then-start-ne64-clause-result
-returns-then-start-ne64-clause-result c =
+pub returns-then-start-ne64 : goal.returns-then-start-ne64
+returns-then-start-ne64 c =
     let a = c.args in
-    (start_short a.log.now a.start.now a.begin.now a.end.now a.drift a.encoding a.pruning a.order.now a.table.now (search rules)).0
+    let all = start_short a.log.now a.start.now a.begin.now a.end.now a.drift a.encoding a.pruning a.order.now a.table.now (search rules) in
+    record {
+      result = all.0;
+      order = all.1.0;
+      table = all.1.1;
+    }
 
-pub returns-then-start-ne64-clause-order : goal.returns-then-start-ne64-clause-order
-returns-then-start-ne64-clause-order c =
+pub returns-then-refused-ne0 : goal.returns-then-refused-ne0
+returns-then-refused-ne0 c =
     let a = c.args in
-    (start_short a.log.now a.start.now a.begin.now a.end.now a.drift a.encoding a.pruning a.order.now a.table.now (search rules)).1.0
-
-pub returns-then-start-ne64-clause-table : goal.returns-then-start-ne64-clause-table
-returns-then-start-ne64-clause-table c =
-    let a = c.args in
-    (start_short a.log.now a.start.now a.begin.now a.end.now a.drift a.encoding a.pruning a.order.now a.table.now (search rules)).1.1
-
-pub returns-then-refused-ne0-clause-result : goal.returns-then-refused-ne0-clause-result
-returns-then-refused-ne0-clause-result c =
-    let a = c.args in
-    (times_unread a.log.now a.start.now a.begin.now a.end.now a.drift a.encoding a.pruning a.order.now a.table.now c.if-start-ne64.false _ c.lengths_refused-refused.ensures c.if-refused-ne0.true).0
-
-pub returns-then-refused-ne0-clause-order : goal.returns-then-refused-ne0-clause-order
-returns-then-refused-ne0-clause-order c =
-    let a = c.args in
-    (times_unread a.log.now a.start.now a.begin.now a.end.now a.drift a.encoding a.pruning a.order.now a.table.now c.if-start-ne64.false _ c.lengths_refused-refused.ensures c.if-refused-ne0.true).1.0
-
-pub returns-then-refused-ne0-clause-table : goal.returns-then-refused-ne0-clause-table
-returns-then-refused-ne0-clause-table c =
-    let a = c.args in
-    (times_unread a.log.now a.start.now a.begin.now a.end.now a.drift a.encoding a.pruning a.order.now a.table.now c.if-start-ne64.false _ c.lengths_refused-refused.ensures c.if-refused-ne0.true).1.1
+    let all = times_unread a.log.now a.start.now a.begin.now a.end.now a.drift a.encoding a.pruning a.order.now a.table.now c.if-start-ne64.false _ c.lengths_refused-refused.ensures c.if-refused-ne0.true in
+    record {
+      result = all.0;
+      order = all.1.0;
+      table = all.1.1;
+    }
 
 pub seconds-begins-requires : goal.seconds-begins-requires
 seconds-begins-requires c = let a = c.args in (lengths_read a.log.now a.begin.now a.end.now _ c.lengths_refused-refused.ensures c.if-refused-ne0.false).1.0
@@ -67,20 +57,13 @@ slice_bounds-decide-end-2 c =
     let long : length c.seconds-ends.result ≡ 32 = search rules in
     sym (length-take-le _ _ (omega (arith, few, long)))
 
-pub returns-clause-result : goal.returns-clause-result
-returns-clause-result c =
+pub returns : goal.returns
+returns c =
     let a = c.args in
-    (times_read a.log.now a.start.now a.begin.now a.end.now a.drift a.encoding a.pruning a.order.now a.table.now c.if-start-ne64.false _ c.lengths_refused-refused.ensures
-    c.if-refused-ne0.false _ _ _ c.values-starting.ensures c.seconds-begins.ensures c.seconds-ends.ensures _ _ _ (c.decide.ensures.result, (c.decide.ensures.order, c.decide.ensures.table))).0
-
-pub returns-clause-order : goal.returns-clause-order
-returns-clause-order c =
-    let a = c.args in
-    (times_read a.log.now a.start.now a.begin.now a.end.now a.drift a.encoding a.pruning a.order.now a.table.now c.if-start-ne64.false _ c.lengths_refused-refused.ensures
-    c.if-refused-ne0.false _ _ _ c.values-starting.ensures c.seconds-begins.ensures c.seconds-ends.ensures _ _ _ (c.decide.ensures.result, (c.decide.ensures.order, c.decide.ensures.table))).1.0
-
-pub returns-clause-table : goal.returns-clause-table
-returns-clause-table c =
-    let a = c.args in
-    (times_read a.log.now a.start.now a.begin.now a.end.now a.drift a.encoding a.pruning a.order.now a.table.now c.if-start-ne64.false _ c.lengths_refused-refused.ensures
-    c.if-refused-ne0.false _ _ _ c.values-starting.ensures c.seconds-begins.ensures c.seconds-ends.ensures _ _ _ (c.decide.ensures.result, (c.decide.ensures.order, c.decide.ensures.table))).1.1
+    let all = times_read a.log.now a.start.now a.begin.now a.end.now a.drift a.encoding a.pruning a.order.now a.table.now c.if-start-ne64.false _ c.lengths_refused-refused.ensures
+    c.if-refused-ne0.false _ _ _ c.values-starting.ensures c.seconds-begins.ensures c.seconds-ends.ensures _ _ _ (c.decide.ensures.result, (c.decide.ensures.order, c.decide.ensures.table)) in
+    record {
+      result = all.0;
+      order = all.1.0;
+      table = all.1.1;
+    }
