@@ -28,14 +28,7 @@ fn ordered(log: &[u8], c: Case, out: &mut [u8]) -> usize
     report::found_text(order, n, writers, table, out)
 }
 
-// For a Decide that refuses: the 4,096 places that are lent hold the constraints of every log that Load takes, so that no caller comes here.
-fn not_reached() -> usize
-    requires { ⊥ }
-{
-    0
-}
-
-// The text for a decision of a log that Load took.
+// The text for a decision of a log that Load took. Decide never refuses here: the 4,096 places that are lent hold the constraints of every log that Load takes.
 fn decided(log: &[u8], d: Decision, out: &mut [u8]) -> usize
     requires { (load_number log.now ≡ 0) × (d ≡ deciding (loaded_case (from_zeros log.now)) 2 1 4096) × (1024 ≤ length out.old) }
     ensures { Wrote out.old 0 (judge_text log.now) out.new result }
@@ -45,7 +38,7 @@ fn decided(log: &[u8], d: Decision, out: &mut [u8]) -> usize
     match verdict {
         Verdict::Order => ordered(log, c, out),
         Verdict::NoOrder => report::none_text(out),
-        Verdict::Refused(_) => not_reached(),
+        Verdict::Refused(_) => unreachable!(),
     }
 }
 

@@ -7,10 +7,6 @@ pub ordered-requires : goal.ordered-requires
 ordered-requires c =
     (said _ c.requires.0 _ c.requires.1 _ c.in-Order.is, c.requires.2)
 
-pub not_reached-requires : goal.not_reached-requires
-not_reached-requires c =
-    said _ c.requires.0 _ c.requires.1 _ c.in-Refused.is
-
 pub returns-in-Order : goal.returns-in-Order
 returns-in-Order c =
     wrote_as (sym (text_decided _ c.requires.0)) c.ordered.ensures
@@ -19,6 +15,6 @@ pub returns-in-NoOrder : goal.returns-in-NoOrder
 returns-in-NoOrder c =
     wrote_as (sym (said _ c.requires.0 _ c.requires.1 _ c.in-NoOrder.is)) c.none_text.ensures
 
-pub returns-in-Refused : goal.returns-in-Refused
-returns-in-Refused c =
-    absurd (said _ c.requires.0 _ c.requires.1 _ c.in-Refused.is)
+-- Decide never refuses here
+pub unreachable-requires : goal.unreachable-requires
+unreachable-requires c = said _ c.requires.0 _ c.requires.1 _ c.in-Refused.is
