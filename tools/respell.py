@@ -87,6 +87,9 @@ def brought():
 def main(argv):
     check = "--check" in argv
     argv = [a for a in argv if a != "--check"]
+    if len(argv) > 1 or any(a.startswith("-") for a in argv):
+        print(__doc__)
+        return 2
     found = declared()
     taken = brought()
     new = {n: CHOSEN.get(n) or spelled(n) for n in found if n not in taken}

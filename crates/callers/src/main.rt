@@ -1,5 +1,5 @@
-// The functions for C, called by place, with their arguments in the order of include/beaconcrumb.h: codes, and what they write, worked out by hand. The gate runs no
-// program in C, and contracts speak of arguments by name; so this is what notices if two of one type change places.
+// The functions for C, those of `host`, called by place, with their arguments in the order of include/beaconcrumb.h: codes, and what they write, worked out by hand. The gate
+// runs no program in C, and contracts speak of arguments by name; so this is what notices if two of one type change places there. `host_c` exports them under the same names.
 // The window is document 01's C, two transactions that write key 0, with values 7 and 9. By its times 1, from second 5 to 255, ends before 0 begins, from second 256 to
 // 70,000. With the lists exchanged each begin is after its end; with the low bytes exchanged 1 would not end before 0 begins. Times of other lengths than 8 bytes each, or none, are 37.
 #![tactic(auto)]

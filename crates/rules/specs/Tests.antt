@@ -1,4 +1,4 @@
--- The tests of a body as the code makes them: from its fields and three masks of keys. Laws in `log` say that they are the model's. Assumes nothing.
+-- The tests of a body as the code makes them: from its fields and three masks of keys. Laws in `logs` say that they are the model's. Assumes nothing.
 use Rattle.std.specs.Prelude.{ℕ, ◌^◌, ◌/◌, ◌%◌, Bool, cond, ◌||◌, eqb, ltb}
 use Rattle.std.specs.Int.Bits.{bit_and, bit_or}
 use Rattle.model.specs.Lists.{bit}

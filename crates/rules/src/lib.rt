@@ -1,5 +1,5 @@
 // Load's rules for one body, over numbers and masks: 7, 8, 9, 10 or 34, 11. The keys that a transaction has read, written and read back so far are three masks.
-// The loops over a log's bodies are in `log`.
+// The loops over a log's bodies are in `logs`.
 #![tactic(auto)]
 
 ghost use Rattle.std.specs.Prelude.{◌≡◌, Bool, cond, ◌<◌};
