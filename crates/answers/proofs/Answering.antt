@@ -1,73 +1,81 @@
 -- Replies, judgements and settings by their tests. Assumes nothing.
-use Prim.Native.Nat.{ℕ, zero, suc, ◌≤◌}
+use Prim.Native.Nat.{ℕ, ◌≤◌}
 use native.Mathlib.Omega.{arith}
-use mathlib.Core.Path.{◌≡◌, refl, sym, ap, ap₂}
-use mathlib.Core.Logic.{◌⊎◌, inl, inr, ◌≢◌}
+use mathlib.Core.Path.{◌≡◌, refl, sym, ap, ap₂, ◌∙◌}
+use mathlib.Core.Logic.{◌⊎◌, inl, inr}
 use mathlib.Core.Bool.{Bool, true, false, not, cond, ◌&&◌}
 use mathlib.Core.List.{List}
-use lib.Dec.{T, eqb, ltb, eqb→eq, nltb→le, eqb-suc-zero}
-use borrow.Author.Tests.{eq-eqb, ne_eqb, le-ltb}
+use lib.Dec.{T, eqb, ltb, nltb→le}
+use borrow.Author.Tests.{ne_eqb, le-ltb}
 use Rattle.model.specs.History.{is_order}
-use Rattle.answers.specs.declared.Reply.TheVariants.{Taken, Refused as RefusedReply}
-use Rattle.answers.specs.declared.Judgement.TheVariants.{Legal, Illegal, Refused}
-use Rattle.answers.specs.Numbers.{number_of, reply_of, judgement_number, judgement_yes, judgement_of}
+use Rattle.std.specs.Prelude.{Result, Ok, Err, is_ok}
+use Rattle.refusals.specs.declared.Refusal.{Refusal}
+use Rattle.refusals.specs.declared.Refusal.TheVariants.{NotAnOrder}
+use Rattle.refusals.specs.Numbers.{code, number_of, refusal_of, answer_of}
+use Rattle.refusals.proofs.Numbering.{code_some, answer_numbered}
+use Rattle.answers.specs.declared.Judgement.TheVariants.{Legal, Illegal}
+use Rattle.answers.specs.Numbers.{reply_of, judgement_yes, judgement_of}
 use Rattle.answers.specs.Stages.{order_refusal}
 use Rattle.answers.specs.Settings.{setting_refusal, places_refusal}
 
 -- ---- replies
 
-pub reply_none : (n : ℕ) → n ≡ 0 → reply_of n ≡ Taken
-unfolding reply_of
-reply_none n e = ap (λ b. cond b Taken (RefusedReply n)) (eq-eqb n 0 e)
+-- a reply is the one with its number
+pub reply_is : (r : Result (Unit {0}) Refusal) (n : ℕ) → number_of r ≡ n → r ≡ reply_of n
+reply_is r n e = sym (answer_numbered tt r (λ y f. refl)) ∙ ap reply_of e
 
-pub reply_some : (n : ℕ) → n ≢ 0 → reply_of n ≡ RefusedReply n
-unfolding reply_of
-reply_some n f = ap (λ b. cond b Taken (RefusedReply n)) (ne_eqb n 0 f)
+-- whether it is taken says its number
+pub ok_number : {X : Type 0} (r : Result X Refusal) → is_ok r ≡ eqb (number_of r) 0
+ok_number (Ok x) = refl
+ok_number (Err r) = sym (ne_eqb (code r) 0 (code_some r))
 
-pub number_reply : (n : ℕ) → number_of (reply_of n) ≡ n
-unfolding reply_of
-number_reply zero = refl
-number_reply (suc n) = ap (λ (b : Bool). number_of (cond b Taken (RefusedReply (suc n)))) (eqb-suc-zero n)
+-- ---- the numbers that stand for a refusal or for none: of these an answer bears the number that it is made of
+
+abbrev pub Known : ℕ → Type 0
+Known n = number_of (reply_of n) ≡ n
+
+pub known_either : (b : Bool) (m n : ℕ) → Known m → Known n → Known (cond b m n)
+known_either true m n k l = k
+known_either false m n k l = l
+
+pub number_known : {X : Type 0} (n : ℕ) (x : X) → Known n → number_of (answer_of n x) ≡ n
+unfolding answer_of
+number_known n x k = go (eqb n 0) ∙ k
+  where
+    go : (b : Bool) → number_of (cond b (Ok x) (Err (refusal_of n))) ≡ number_of {X = Unit {0}} (cond b (Ok tt) (Err (refusal_of n)))
+    go true = refl
+    go false = refl
 
 -- ---- judgements
 
--- the number and the yes or no that a judgement is made of come out of it again
-pub judgement_number_lem : (n : ℕ) (y : Bool) → judgement_number (judgement_of n y) ≡ n
-unfolding judgement_of
-judgement_number_lem n y = go (eqb n 0) y (λ t. eqb→eq n 0 t)
-  where
-    go : (x z : Bool) → (T x → n ≡ 0) → judgement_number (cond x (cond z Legal Illegal) (Refused n)) ≡ n
-    go true true f = sym (f tt)
-    go true false f = sym (f tt)
-    go false z f = refl
-
+-- the yes or no that a judgement is made of comes out of it again
 pub judgement_yes_lem : (n : ℕ) (y : Bool) → judgement_yes (judgement_of n y) ≡ (eqb n 0 && y)
-unfolding judgement_of
+unfolding judgement_of answer_of
 judgement_yes_lem n y = go (eqb n 0) y
   where
-    go : (x z : Bool) → judgement_yes (cond x (cond z Legal Illegal) (Refused n)) ≡ (x && z)
+    go : (x z : Bool) → judgement_yes (cond x (Ok (cond z Legal Illegal)) (Err (refusal_of n))) ≡ (x && z)
     go true true = refl
     go true false = refl
     go false z = refl
 
 -- where the number is not 0, yes or no makes no difference
 pub judgement_only : (n : ℕ) (y : Bool) → judgement_of n (eqb n 0 && y) ≡ judgement_of n y
-unfolding judgement_of
+unfolding judgement_of answer_of
 judgement_only n y = go (eqb n 0)
   where
-    go : (x : Bool) → cond x (cond (x && y) Legal Illegal) (Refused n) ≡ cond x (cond y Legal Illegal) (Refused n)
+    go : (x : Bool) → cond x (Ok (cond (x && y) Legal Illegal)) (Err (refusal_of n)) ≡ cond x (Ok (cond y Legal Illegal)) (Err (refusal_of n))
     go true = refl
     go false = refl
 
 -- ---- over a log
 
 module _ (n : ℕ) (o : List ℕ) (y : Bool) where
-  pub judged_none : is_order n o ≡ false → Refused 13 ≡ judgement_of (order_refusal n o) y
-  unfolding order_refusal judgement_of
+  pub judged_none : is_order n o ≡ false → Err NotAnOrder ≡ judgement_of (order_refusal n o) y
+  unfolding order_refusal judgement_of answer_of refusal_of
   judged_none e = sym (ap (λ b. judgement_of (cond b 0 13) y) e)
 
-  pub judged_some : (x : Bool) → is_order n o ≡ true → y ≡ x → cond x Legal Illegal ≡ judgement_of (order_refusal n o) y
-  unfolding order_refusal judgement_of
+  pub judged_some : (x : Bool) → is_order n o ≡ true → y ≡ x → Ok (cond x Legal Illegal) ≡ judgement_of (order_refusal n o) y
+  unfolding order_refusal judgement_of answer_of
   judged_some x e f = sym (ap₂ (λ b z. judgement_of (cond b 0 13) z) e f)
 
 -- ---- settings
@@ -111,3 +119,12 @@ places_zero n places words = go (ltb places n) (ltb words 32) (λ t. nltb→le p
 pub places_enough : (n places words : ℕ) → n ≤ places → 32 ≤ words → places_refusal n places words ≡ 0
 unfolding places_refusal
 places_enough n places words l m = ap₂ {C = ℕ} (λ (a b : Bool). cond a 25 (cond b 25 0)) (le-ltb places n l) (le-ltb words 32 m)
+
+-- their numbers stand for a refusal, or for none
+pub setting_known : (e pruning : ℕ) → Known (setting_refusal e pruning)
+unfolding setting_refusal answer_of refusal_of
+setting_known e pruning = known_either (ltb 2 e) 12 (cond (ltb 1 pruning) 12 0) refl (known_either (ltb 1 pruning) 12 0 refl refl)
+
+pub places_known : (n places words : ℕ) → Known (places_refusal n places words)
+unfolding places_refusal answer_of refusal_of
+places_known n places words = known_either (ltb places n) 25 (cond (ltb words 32) 25 0) refl (known_either (ltb words 32) 25 0 refl refl)

@@ -61,16 +61,6 @@ claims_is bytes n order m r p e = e ∙ ap (λ k. is_order k (take k order)) p
 
 -- ---- the stage
 
-pub counted_is : (says s : Stage) (l loads o orders : Bool) → says ≡ s → l ≡ loads → o ≡ orders → counted s loads orders ≡ counted says l o
-counted_is says s l loads o orders p q r = sym (ap (λ x. counted x l o) p ∙ ap₂ (counted s) q r)
-
-pub counted_fresh : (s : Stage) (orders : Bool) → counted s false orders ≡ Fresh
-unfolding counted
-counted_fresh Fresh orders = refl
-counted_fresh Loaded orders = refl
-counted_fresh Ordered orders = refl
-counted_fresh NoOrder orders = refl
-
 -- a case that isn't fresh holds a log that Load takes
 pub counted_loads : (s : Stage) (loads orders : Bool) → is_fresh (counted s loads orders) ≡ false → T loads
 unfolding counted

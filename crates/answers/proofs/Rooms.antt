@@ -4,9 +4,8 @@ use native.Mathlib.Omega.{arith}
 use mathlib.Core.Path.{◌≡◌, refl, sym, ap, ap₂, ◌∙◌}
 use mathlib.Core.List.{List, ◌++◌}
 use lib.ListN.{length, drop, replicate}
-use lib.Seq.{take-length, take_at}
+use lib.Seq.{take_at}
 use Rattle.model.specs.Times.{Times, times}
-use Rattle.answers.specs.Copies.{copied}
 use Rattle.answers.specs.declared.Clock.{Clock}
 use Rattle.answers.specs.Clocks.{times_in, in_clock, clock_of}
 
@@ -16,14 +15,14 @@ drop_zeros (suc n) m =
     let e : suc n + m ≡ suc (n + m) = omega arith in
     ap {B = List ℕ} (λ k. drop (suc n) (replicate k 0)) e ∙ drop_zeros n m
 
-pub with_zeros : (room : ℕ) (b r : List ℕ) → length b ≤ room → r ≡ copied (length b) b (replicate room 0) → r ≡ b ++ replicate (room - length b) 0
+pub with_zeros : (room : ℕ) (b r : List ℕ) → length b ≤ room → r ≡ b → r ++ drop (length b) (replicate room 0) ≡ b ++ replicate (room - length b) 0
 with_zeros room b r l e =
     let sum : room ≡ length b + (room - length b) = omega arith in
-    e ∙ ap₂ {C = List ℕ} (λ (x y : List ℕ). x ++ y) (take-length b) (ap (λ k. drop (length b) (replicate k 0)) sum ∙ drop_zeros (length b) (room - length b))
+    ap₂ {C = List ℕ} (λ (x y : List ℕ). x ++ y) e (ap (λ k. drop (length b) (replicate k 0)) sum ∙ drop_zeros (length b) (room - length b))
 
 -- ---- times
 
-pub in_clock_lem : (seconds r : List ℕ) → length seconds ≤ 32 → r ≡ copied (length seconds) seconds (replicate 32 0) → r ≡ in_clock seconds
+pub in_clock_lem : (seconds r : List ℕ) → length seconds ≤ 32 → r ≡ seconds → r ++ drop (length seconds) (replicate 32 0) ≡ in_clock seconds
 unfolding in_clock
 in_clock_lem seconds r l e = with_zeros 32 seconds r l e
 

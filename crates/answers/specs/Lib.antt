@@ -1,5 +1,4 @@
 pub mod Clocks
-pub mod Copies
 pub mod Numbers
 pub mod Settings
 pub mod Stages

@@ -4,7 +4,7 @@ ghost use Rattle.model.specs.Times.{times};
 ghost use Rattle.answers.specs.Clocks.{no_clock, in_clock, clock_of};
 
 use crate::Clock;
-use crate::copies::copy_seconds;
+use logs::times::Times;
 
 // The clock of a window without times, with drift 0.
 pub fn none() -> Clock
@@ -24,21 +24,19 @@ fn in_clock(seconds: &[u32]) -> [u32; 32]
     ensures { result ≡ in_clock seconds.now }
 {
     let mut out = [0u32; 32];
-    copy_seconds(seconds, seconds.len(), &mut out);
+    out[..seconds.len()].copy_from_slice(seconds);
     out
 }
 
 // The clock with these lists and this drift.
-pub fn clock_of(begin: &[u32], end: &[u32], drift: u32) -> Clock
-    requires { (length begin.now ≤ 32) × (length end.now ≤ 32) }
-    ensures { result ≡ clock_of (times begin.now end.now drift) }
+pub fn clock_of(clock: Times<'_>) -> Clock
+    requires { (length clock.begin.now ≤ 32) × (length clock.end.now ≤ 32) }
+    ensures { result ≡ clock_of (times clock.entry.begin.now clock.entry.end.now clock.entry.drift) }
 {
-    let begins = in_clock(begin);
-    let ends = in_clock(end);
     Clock {
-        count: begin.len(),
-        begin: begins,
-        end: ends,
-        drift,
+        count: clock.begin.len(),
+        begin: in_clock(clock.begin),
+        end: in_clock(clock.end),
+        drift: clock.drift,
     }
 }

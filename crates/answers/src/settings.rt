@@ -1,23 +1,35 @@
 // The tests of a setting and of the places of lent lists: 12, 25.
-ghost use Rattle.std.specs.Prelude.{◌≡◌};
+ghost use Rattle.std.specs.Prelude.{◌≡◌, IfOk};
+ghost use Rattle.refusals.specs.Numbers.{number_of};
+ghost use Rattle.setting.specs.Encodings.{encoding_number, pruning_number};
 ghost use Rattle.answers.specs.Settings.{setting_refusal, places_refusal};
 
-// 12 a setting out of range.
-pub fn setting_refusal(encoding: u8, pruning: u8) -> u8
-    ensures { result ≡ setting_refusal encoding pruning }
+use refusals::Refusal;
+use setting::{Encoding, Setting};
+
+// The setting with these numbers: 12 one out of range.
+#[tactic(auto, unfolding(crate::specs::Settings::setting_refusal))]
+pub fn test_setting(encoding: u8, pruning: u8) -> Result<Setting, Refusal>
+    ensures number { number_of result ≡ setting_refusal encoding pruning }
+    ensures setting { IfOk result (λ s. (encoding_number s.encoding ≡ encoding) × (pruning_number s.pruned ≡ pruning)) }
 {
-    if encoding > 2 {
-        return 12;
+    let encoding = Encoding::try_from(encoding)?;
+    if pruning > 1 {
+        return Err(Refusal::NoSuchSetting);
     }
-    if pruning > 1 { 12 } else { 0 }
+    Ok(Setting {
+        encoding,
+        pruned: pruning == 1,
+    })
 }
 
 // 25 a list with fewer places than constraints, or fewer than 32 row words.
-pub fn places_refusal(count: u16, places: usize, words: usize) -> u8
-    ensures { result ≡ places_refusal count places words }
+#[tactic(auto, unfolding(crate::specs::Settings::places_refusal))]
+pub fn test_places(count: u16, places: usize, words: usize) -> Result<(), Refusal>
+    ensures { number_of result ≡ places_refusal count places words }
 {
-    if places < count as usize {
-        return 25;
+    if places < usize::from(count) || words < 32 {
+        return Err(Refusal::TooFewPlaces);
     }
-    if words < 32 { 25 } else { 0 }
+    Ok(())
 }

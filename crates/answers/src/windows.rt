@@ -1,58 +1,61 @@
-// Load's number of a window: the starting table's, then the log's, then that of its times.
-ghost use Rattle.std.specs.Prelude.{◌≡◌, leb, length, get_or, ℕ};
-ghost use Rattle.model.specs.Lists.{all, up_to};
+// Load's tests of a window: of the starting table, then of the log, then of its times.
+ghost use Rattle.std.specs.Prelude.{◌≡◌, leb, ℕ, IfOk};
+ghost use Rattle.std.specs.List.{list_all, zip};
 ghost use Rattle.model.specs.Times.{times, times_number, timed_number};
 ghost use Rattle.model.specs.Window.{window, window_number};
+ghost use Rattle.refusals.specs.Numbers.{number_of};
+
+use logs::Log;
+use logs::times::{TimedLog, Times};
+use refusals::Refusal;
 
 // Whether no begin is after its end.
 fn in_turn(begin: &[u32], end: &[u32]) -> bool
-    requires { length begin.now ≡ length end.now }
-    ensures { result ≡ all (λ (t : ℕ). leb (get_or begin.now t 0) (get_or end.now t 0)) (up_to (length begin.now)) }
+    ensures { result ≡ list_all (λ (p : ℕ × ℕ). leb p.0 p.1) (zip begin.now end.now) }
 {
-    let mut t: usize = 0;
-    while t < begin.len() {
-        if begin[t] > end[t] {
-            return false;
-        }
-        t += 1;
-    }
-    true
+    begin.iter().zip(end).all(|(b, e)| b <= e)
 }
 
 // Of n transactions: 37 lists that are neither both empty nor both of n entries, then 38 a drift over 3,600 or a begin after its end.
-fn times_number(n: usize, begin: &[u32], end: &[u32], drift: u32) -> u8
-    ensures { result ≡ times_number n (times begin.now end.now drift) }
+fn test_times(n: usize, clock: Times<'_>) -> Result<(), Refusal>
+    ensures { number_of result ≡ times_number n (times clock.entry.begin.now clock.entry.end.now clock.entry.drift) }
 {
-    if begin.len() != end.len() {
-        return 37;
+    if clock.begin.len() != clock.end.len() {
+        return Err(Refusal::WrongCountOfTimes);
     }
-    if (begin.len() != 0) & (begin.len() != n) {
-        return 37;
+    if (clock.begin.len() != 0) & (clock.begin.len() != n) {
+        return Err(Refusal::WrongCountOfTimes);
     }
-    if drift > 3600 {
-        return 38;
+    if clock.drift > 3600 {
+        return Err(Refusal::WrongTimes);
     }
-    if in_turn(begin, end) { 0 } else { 38 }
+    if !in_turn(clock.begin, clock.end) {
+        return Err(Refusal::WrongTimes);
+    }
+    Ok(())
 }
 
-// Load's number of the log, then that of its times.
-pub fn timed_number(log: &[u8], begin: &[u32], end: &[u32], drift: u32) -> u8
-    ensures { result ≡ timed_number log.now (times begin.now end.now drift) }
+// The log of these bytes with these times, by Load's tests of the log and then those of its times.
+pub fn load_timed<'a>(bytes: &'a [u8], clock: Times<'a>) -> Result<TimedLog<'a>, Refusal>
+    ensures number { number_of result ≡ timed_number bytes.now (times clock.entry.begin.now clock.entry.end.now clock.entry.drift) }
+    ensures log { IfOk result (λ l. (l.log.bytes.now ≡ bytes.now) × (l.clock ≡ clock.entry)) }
 {
-    let number = logs::number(log);
-    if number != 0 {
-        return number;
-    }
-    let n = logs::transactions(log);
-    times_number(n, begin, end, drift)
+    let log = Log::load(bytes)?;
+    test_times(log.transactions(), clock)?;
+    Ok(TimedLog { log, clock })
 }
 
-// 36 a starting table that isn't exactly 32 values, then the number of the log and its times.
-pub fn number(log: &[u8], starting: &[u16], begin: &[u32], end: &[u32], drift: u32) -> u8
-    ensures { result ≡ window_number (window log.now starting.now (times begin.now end.now drift)) }
+// 36 a starting table that isn't exactly 32 values, then the tests of the log and its times.
+pub fn load<'a>(
+    bytes: &'a [u8],
+    starting: &[u16],
+    clock: Times<'a>,
+) -> Result<TimedLog<'a>, Refusal>
+    ensures number { number_of result ≡ window_number (window bytes.now starting.now (times clock.entry.begin.now clock.entry.end.now clock.entry.drift)) }
+    ensures log { IfOk result (λ l. (l.log.bytes.now ≡ bytes.now) × (l.clock ≡ clock.entry)) }
 {
     if starting.len() != 32 {
-        return 36;
+        return Err(Refusal::NotATable);
     }
-    timed_number(log, begin, end, drift)
+    load_timed(bytes, clock)
 }

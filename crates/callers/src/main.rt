@@ -1,47 +1,13 @@
 // The functions for C, those of `host`, called by place, with their arguments in the order of include/beaconcrumb.h: codes, and what they write, worked out by hand. The gate
 // runs no program in C, and contracts speak of arguments by name; so this is what notices if two of one type change places there. `host_c` exports them under the same names.
-// The window is document 01's C, two transactions that write key 0, with values 7 and 9. By its times 1, from second 5 to 255, ends before 0 begins, from second 256 to
-// 70,000. With the lists exchanged each begin is after its end; with the low bytes exchanged 1 would not end before 0 begins. Times of other lengths than 8 bytes each, or none, are 37.
+// The window is that of `samples::calls`. With the lists exchanged each begin is after its end; with the low bytes exchanged 1 would not end before 0 begins. Times of other lengths than 8 bytes each, or none, are 37.
 #![tactic(auto)]
 
 use host::{
     beaconcrumb_check, beaconcrumb_check_strict, beaconcrumb_decide, beaconcrumb_decide_from,
     beaconcrumb_decide_strict, beaconcrumb_encode, beaconcrumb_encode_strict,
 };
-use samples::lines::{byte, end, number, text};
-
-const LOG: [u8; 20] = [2, 0, 2, 0, 0, 1, 0, 0, 1, 1, 1, 0, 1, 0, 7, 0, 1, 0, 9, 0];
-
-// 256 and 5; 70,000 and 255.
-const BEGIN: [u8; 8] = [0, 1, 0, 0, 5, 0, 0, 0];
-
-const END: [u8; 8] = [112, 17, 1, 0, 255, 0, 0, 0];
-
-// Bytes, as numbers.
-fn bytes(list: &[u8]) {
-    let mut i: usize = 0;
-    while i < list.len() {
-        byte(list[i]);
-        i += 1;
-    }
-}
-
-// A line: a name, a code, and bytes.
-fn show(name: &[u8], code: u32, list: &[u8]) {
-    text(name);
-    number(code as u64);
-    bytes(list);
-    end();
-}
-
-// The start: key 0 at 1, key 1 at 258, all others at 0.
-fn start() -> [u8; 64] {
-    let mut out = [0u8; 64];
-    out[0] = 1;
-    out[2] = 2;
-    out[3] = 1;
-    out
-}
+use samples::calls::{BEGIN, END, LOG, show, start};
 
 // Check of 0 1 and of 1 0.
 fn checks() {
@@ -71,26 +37,19 @@ fn checks() {
     );
 }
 
-// The first four bytes of a table, for keys 0 and 1.
-fn low(table: [u8; 65]) -> [u8; 4] {
-    [table[0], table[1], table[2], table[3]]
+// Two lines of a decision: its code and the order, then the values of keys 0 and 1 in the table.
+fn show_decision(name: &[u8], code: u32, order: &[u8], table: &[u8; 65]) {
+    show(name, code, order);
+    show(b"  table:", code, &table[..4]);
 }
 
-// Its last value, and the byte behind it.
-fn high(table: [u8; 65]) -> [u8; 3] {
-    [table[62], table[63], table[64]]
-}
-
-// Decide: the code, the order and the table, in buffers that are a byte longer than needed.
+// Decide: the code, the order, and of the table the values of keys 0 and 1, then the last one, in buffers that are a byte longer than needed.
 fn decisions() {
     let mut order = [99u8; 3];
     let mut table = [98u8; 65];
     let plain = beaconcrumb_decide(&LOG, 2, 1, &mut order, &mut table);
-    show(b"decide:", plain, &order);
-    let four = low(table);
-    show(b"  table:", plain, &four);
-    let three = high(table);
-    show(b"  its end:", plain, &three);
+    show_decision(b"decide:", plain, &order, &table);
+    show(b"  its end:", plain, &table[62..]);
 }
 
 // The same from a start.
@@ -99,9 +58,7 @@ fn from_a_start() {
     let mut order = [99u8; 3];
     let mut table = [98u8; 65];
     let from = beaconcrumb_decide_from(&LOG, &s, 2, 1, &mut order, &mut table);
-    show(b"decide from:", from, &order);
-    let four = low(table);
-    show(b"  table:", from, &four);
+    show_decision(b"decide from:", from, &order, &table);
 }
 
 // The same with times, and with this drift.
@@ -112,44 +69,23 @@ fn by_the_clock(begin: &[u8], end: &[u8], drift: u32) {
     let strict = beaconcrumb_decide_strict(
         &LOG, &s, begin, end, drift, 2, 1, &mut order, &mut table,
     );
-    show(b"strict decide:", strict, &order);
-    let four = low(table);
-    show(b"  table:", strict, &four);
-}
-
-// The count and the first two row words of a polygraph in bytes.
-fn front(out: [u8; 141]) -> [u8; 10] {
-    [
-        out[0], out[1], out[2], out[3], out[4], out[5], out[6], out[7], out[8], out[9],
-    ]
-}
-
-// The first constraint, and the byte behind it.
-fn constraint(out: [u8; 141]) -> [u8; 11] {
-    [
-        out[130], out[131], out[132], out[133], out[134], out[135], out[136], out[137], out[138],
-        out[139], out[140],
-    ]
+    show_decision(b"strict decide:", strict, &order, &table);
 }
 
 // Encode in encoding 1: the code, the count and the first two row words, then the constraint.
 fn polygraph() {
     let mut out = [97u8; 141];
     let plain = beaconcrumb_encode(&LOG, 1, 0, &mut out);
-    let ten = front(out);
-    show(b"encode:", plain, &ten);
-    let eleven = constraint(out);
-    show(b"  constraint:", plain, &eleven);
+    show(b"encode:", plain, &out[..10]);
+    show(b"  constraint:", plain, &out[130..]);
 }
 
 // The same with times.
 fn strict_polygraph(begin: &[u8], end: &[u8], drift: u32, pruning: u8) {
     let mut out = [97u8; 141];
     let strict = beaconcrumb_encode_strict(&LOG, begin, end, drift, 1, pruning, &mut out);
-    let ten = front(out);
-    show(b"strict encode:", strict, &ten);
-    let eleven = constraint(out);
-    show(b"  constraint:", strict, &eleven);
+    show(b"strict encode:", strict, &out[..10]);
+    show(b"  constraint:", strict, &out[130..]);
 }
 
 // The three strict functions with times of these lengths: 37 where they are neither both empty nor both of 8 bytes, and what is shown of the buffers is then as it was.
@@ -165,12 +101,9 @@ fn lengths(begin: &[u8], end: &[u8]) {
         b"",
     );
     let decided = beaconcrumb_decide_strict(&LOG, &s, begin, end, 0, 2, 1, &mut order, &mut table);
-    show(b"  decide:", decided, &order);
-    let four = low(table);
-    show(b"  table:", decided, &four);
+    show_decision(b"  decide:", decided, &order, &table);
     let encoded = beaconcrumb_encode_strict(&LOG, begin, end, 0, 1, 0, &mut out);
-    let ten = front(out);
-    show(b"  encode:", encoded, &ten);
+    show(b"  encode:", encoded, &out[..10]);
 }
 
 // A log of 3 bytes, which is tested before its times, with a start, which is tested before it.

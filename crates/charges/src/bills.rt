@@ -13,33 +13,21 @@ pub(crate) fn mark() -> Bill {
 }
 
 // The case of a window after Decide.
-pub(crate) fn decided_by(log: &[u8], starting: &[u16], clock: Clock) -> Case {
-    let d = lender::decide(loaded_by(log, starting, clock), 2, 1);
-    d.case
+pub(crate) fn decided_by(log: &[u8], starting: &[u16], clock: &Clock) -> Case {
+    lender::decide(loaded_by(log, starting, clock), 2, 1).case
 }
 
 // The same without times, with every key at one value.
 pub(crate) fn decided(log: &[u8], start: u16) -> Case {
-    let starting = [start; 32];
-    decided_by(log, &starting, none())
-}
-
-// The same of the first n bytes.
-pub(crate) fn decided_first(bytes: &[u8], n: usize, start: u16) -> Case {
-    if n > bytes.len() {
-        return Case::fresh();
-    }
-    decided(&bytes[0..n], start)
+    decided_by(log, &[start; 32], &none())
 }
 
 // A cabinet's bill.
 pub(crate) fn bill_of(c: Case, cabinet: usize) -> Bill {
-    let b = lists::bills(c, 16, mark());
-    let list = b.list;
-    list[cabinet % 16]
+    lists::bills(c, 16, mark()).list[cabinet % 16]
 }
 
-// Whether two bills are the same.
+// Whether two bills are the same: `wear`, whose type it is, derives no comparison.
 pub(crate) fn same(a: Bill, b: Bill) -> bool {
     a.mills == b.mills && a.cents == b.cents && a.travel == b.travel
 }
@@ -51,46 +39,25 @@ fn is_nothing(b: Bill) -> bool {
 
 // Whether all cabinets but two pay nothing.
 fn others_free(c: Case, one: usize, two: usize) -> bool {
-    let b = lists::bills(c, 16, mark());
-    let list = b.list;
-    for i in 0..16usize {
-        if i != one && i != two && !is_nothing(list[i]) {
-            return false;
-        }
-    }
-    true
+    let list = lists::bills(c, 16, mark()).list;
+    list[..16]
+        .iter()
+        .enumerate()
+        .all(|(i, b)| i == one || i == two || is_nothing(*b))
 }
 
 // ---- lines
 
-// 32 signed bits as 64.
-pub(crate) fn wide(x: i32) -> i64 {
-    x as i64
-}
-
-// How far a number is from 0.
-pub(crate) fn size(x: i32) -> u64 {
-    let y = x as i64;
-    if y < 0 {
-        return (0 - y) as u64;
-    }
-    y as u64
-}
-
 // A space and a signed number.
 fn signed(x: i32) {
-    if x < 0 {
-        text(b" -");
-        io::print_decimal(1, size(x));
-    } else {
-        number(size(x));
-    }
+    text(if x < 0 { b" -" } else { b" " });
+    io::print_decimal(1, u64::from(x.unsigned_abs()));
 }
 
 // A bill.
 pub(crate) fn print(b: Bill) {
-    number(b.mills as u64);
-    number(b.cents as u64);
+    number(b.mills);
+    number(b.cents);
     signed(b.travel);
 }
 

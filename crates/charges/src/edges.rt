@@ -1,22 +1,22 @@
 // Bills worked out by hand where they could go wrong: moves of nothing and over the whole range, keys that are no gates, cents rounded down, the value that
 // a move starts from, an order that is not the log's, and the largest sums.
-use crate::bills::{bill_of, decided, decided_by, decided_first, print, print_two};
-use crate::writes::{Writes, and, length, log_of, none, one};
+use crate::bills::{bill_of, decided, decided_by, print, print_two};
+use crate::writes::{Write, by, log_of};
 use checker::{Case, Clock};
 use samples::lines::{end, number, text};
 use samples::tables::levels;
+use trial::log::Bytes;
 
 // The case of a few writes, with every key at one value.
-fn made(w: Writes, start: u16) -> Case {
-    let log = log_of(w);
-    decided_first(&log, length(w), start)
+fn made(list: &[Write], start: u16) -> Case {
+    decided(log_of(list).as_slice(), start)
 }
 
 // The line of a few writes: what cabinets 0 and 1 pay.
-fn show(name: &[u8], w: Writes, start: u16) {
+fn show(name: &[u8], list: &[Write], start: u16) {
     text(name);
     text(b":");
-    print_two(made(w, start), 0, 1);
+    print_two(made(list, start), 0, 1);
     end();
 }
 
@@ -25,69 +25,69 @@ fn show(name: &[u8], w: Writes, start: u16) {
 // A gate over the whole range, up and down.
 fn show_range(gate: u8) {
     text(b"gate");
-    number(gate as u64);
+    number(gate);
     text(b" from 0 to 65535; from 65535 to 0:");
-    print(bill_of(made(one(5, gate, 65535), 0), 5));
+    print(bill_of(made(&[by(5, gate, 65535)], 0), 5));
     text(b";");
-    print(bill_of(made(one(5, gate, 0), 65535), 5));
+    print(bill_of(made(&[by(5, gate, 0)], 65535), 5));
     end();
 }
 
 fn ranges() {
-    show_range(0);
-    show_range(3);
-    show_range(4);
-    show_range(7);
-    show_range(8);
-    show_range(11);
-    show_range(12);
-    show_range(15);
+    for gate in [0, 3, 4, 7, 8, 11, 12, 15] {
+        show_range(gate);
+    }
 }
 
 fn nothings() {
-    show(b"no transaction", none(), 500);
-    show(b"gate 0 from 500 to 500", one(0, 0, 500), 500);
-    show(b"gate 15 from 0 to 0", one(0, 15, 0), 0);
-    show(b"gate 12 from 65535 to 65535", one(0, 12, 65535), 65535);
-    show(b"key 16 from 500 to 65535", one(0, 16, 65535), 500);
-    show(b"key 31 from 500 to 0", one(0, 31, 0), 500);
+    show(b"no transaction", &[], 500);
+    show(b"gate 0 from 500 to 500", &[by(0, 0, 500)], 500);
+    show(b"gate 15 from 0 to 0", &[by(0, 15, 0)], 0);
+    show(b"gate 12 from 65535 to 65535", &[by(0, 12, 65535)], 65535);
+    show(b"key 16 from 500 to 65535", &[by(0, 16, 65535)], 500);
+    show(b"key 31 from 500 to 0", &[by(0, 31, 0)], 500);
     show(
         b"key 16 to 600, then gate 15 to 501, cabinet 1 writes key 31",
-        and(and(one(0, 16, 600), 0, 15, 501), 1, 31, 600),
+        &[by(0, 16, 600), by(0, 15, 501), by(1, 31, 600)],
         500,
     );
-    show(b"cabinet 1 alone has a transaction", one(1, 8, 501), 500);
+    show(b"cabinet 1 alone has a transaction", &[by(1, 8, 501)], 500);
 }
 
 // ---- cents
 
 fn few_cents() {
-    show(b"4 mills", one(0, 0, 499), 500);
-    show(b"9 mills", and(one(0, 0, 499), 0, 4, 499), 500);
-    show(b"10 mills", one(0, 12, 499), 500);
-    show(b"19 mills", and(one(0, 4, 501), 0, 0, 499), 500);
-    show(b"20 mills", one(0, 8, 501), 500);
+    show(b"4 mills", &[by(0, 0, 499)], 500);
+    show(b"9 mills", &[by(0, 0, 499), by(0, 4, 499)], 500);
+    show(b"10 mills", &[by(0, 12, 499)], 500);
+    show(b"19 mills", &[by(0, 4, 501), by(0, 0, 499)], 500);
+    show(b"20 mills", &[by(0, 8, 501)], 500);
     show(
         b"29 mills",
-        and(and(one(0, 8, 501), 0, 0, 499), 0, 4, 499),
+        &[by(0, 8, 501), by(0, 0, 499), by(0, 4, 499)],
         500,
     );
-    show(b"30 mills", and(one(0, 8, 501), 0, 12, 499), 500);
+    show(b"30 mills", &[by(0, 8, 501), by(0, 12, 499)], 500);
 }
 
 // Three gates raised, for 90 mills, and two more writes.
-fn after_ninety(a: u8, b: u8) -> Writes {
-    let ninety = and(and(one(0, 12, 501), 0, 13, 501), 0, 8, 501);
-    and(and(ninety, 0, a, 499), 0, b, 499)
+fn after_ninety(a: u8, b: u8) -> [Write; 5] {
+    [
+        by(0, 12, 501),
+        by(0, 13, 501),
+        by(0, 8, 501),
+        by(0, a, 499),
+        by(0, b, 499),
+    ]
 }
 
 fn more_cents() {
-    show(b"99 mills", after_ninety(0, 4), 500);
-    show(b"99 mills in another order", after_ninety(7, 3), 500);
-    show(b"100 mills", after_ninety(14, 16), 500);
+    show(b"99 mills", &after_ninety(0, 4), 500);
+    show(b"99 mills in another order", &after_ninety(7, 3), 500);
+    show(b"100 mills", &after_ninety(14, 16), 500);
     show(
         b"9 mills each, for two cabinets",
-        and(and(and(one(0, 0, 499), 1, 1, 499), 0, 4, 499), 1, 5, 499),
+        &[by(0, 0, 499), by(1, 1, 499), by(0, 4, 499), by(1, 5, 499)],
         500,
     );
 }
@@ -96,12 +96,11 @@ fn more_cents() {
 
 // Gate 0 stands at 65535, and gate 1 at 1001.
 fn from_levels() {
-    let starting = levels();
     text(b"gate 0 from 65535 to 65000, gate 1 from 1001 to 1101, key 30:");
     let c = decided_by(
         b"\x03\x00\x03\x00\x00\x01\x00\x00\x01\x01\x01\x00\x00\x01\x02\x00\x01\x00\xe8\xfd\x01\x01\x4d\x04\x01\x1e\x09\x00",
-        &starting,
-        samples::clocks::none(),
+        &levels(),
+        &samples::clocks::none(),
     );
     print_two(c, 0, 1);
     end();
@@ -110,22 +109,22 @@ fn from_levels() {
 fn in_turn() {
     show(
         b"gate 2 from 500 to 900, 700 by cabinet 1, 800",
-        and(and(one(0, 2, 900), 1, 2, 700), 0, 2, 800),
+        &[by(0, 2, 900), by(1, 2, 700), by(0, 2, 800)],
         500,
     );
     show(
         b"gate 2 from 500 to 510 and back",
-        and(one(0, 2, 510), 0, 2, 500),
+        &[by(0, 2, 510), by(0, 2, 500)],
         500,
     );
     show(
         b"gate 2 from 500 to 510, back by cabinet 1, to 510 again",
-        and(and(one(0, 2, 510), 1, 2, 500), 0, 2, 510),
+        &[by(0, 2, 510), by(1, 2, 500), by(0, 2, 510)],
         500,
     );
     show(
         b"gates 2 and 9 from 500 to 600 and 550, gate 9 to 600 by cabinet 1",
-        and(and(one(0, 2, 600), 0, 9, 550), 1, 9, 600),
+        &[by(0, 2, 600), by(0, 9, 550), by(1, 9, 600)],
         500,
     );
 }
@@ -142,25 +141,19 @@ fn show_log(name: &[u8], log: &[u8]) {
 
 // Cabinet 0 writes 700 to gate 5, and cabinet 1 writes 800. Transaction 1 ended 980 seconds before 0 began: more than the drift, or not.
 fn by_clock(name: &[u8], drift: u32) {
-    let mut begin = [0u32; 32];
-    let mut over = [0u32; 32];
-    begin[0] = 1000;
-    over[0] = 1010;
-    begin[1] = 10;
-    over[1] = 20;
-    let clock = Clock {
+    let mut clock = Clock {
         count: 2,
-        begin,
-        end: over,
         drift,
+        ..samples::clocks::none()
     };
-    let starting = [500u16; 32];
+    clock.begin[..2].copy_from_slice(&[1000, 10]);
+    clock.end[..2].copy_from_slice(&[1010, 20]);
     text(name);
     text(b":");
     let c = decided_by(
         b"\x02\x00\x02\x00\x00\x01\x00\x00\x01\x01\x01\x00\x01\x05\xbc\x02\x01\x05\x20\x03",
-        &starting,
-        clock,
+        &[500; 32],
+        &clock,
     );
     print_two(c, 0, 1);
     end();
@@ -169,7 +162,7 @@ fn by_clock(name: &[u8], drift: u32) {
 fn orders() {
     show(
         b"gate 5 to 700, 800 by cabinet 1",
-        and(one(0, 5, 700), 1, 5, 800),
+        &[by(0, 5, 700), by(1, 5, 800)],
         500,
     );
     show_log(
@@ -193,72 +186,45 @@ fn orders() {
 
 // ---- the largest sums
 
-// Byte i of the log of 32 transactions of 8 writes: those of an even number raise gates 8 to 15 to the highest value, the others lower them to 0. Cabinet 0 has
-// the even ones, and cabinet `second` the odd ones.
-fn heavy_byte(second: u8, i: usize) -> u8 {
-    if i < 4 {
-        return match i {
-            0 => 32,
-            3 => 1,
-            _ => 0,
-        };
+// The log of 32 transactions of 8 writes: those of an even number raise gates 8 to 15 to the highest value, the others lower them to 0. Cabinet 0 has the even
+// ones, and cabinet `second` the odd ones.
+fn heavy(second: u8) -> Bytes {
+    let mut out = Bytes::new();
+    out.push_pair(32);
+    out.push_pair(256);
+    for t in 0..32u16 {
+        out.push_entry(if t % 2 == 0 { 0 } else { second }, 8, 8 * t);
     }
-    if i < 132 {
-        let t = (i - 4) / 4 % 32;
-        return match i % 4 {
-            0 => if t % 2 == 0 { 0 } else { second },
-            1 => 8,
-            2 => (8 * t) as u8,
-            _ => 0,
-        };
-    }
-    let m = (i - 132) / 4 % 256;
-    match i % 4 {
-        0 => 1,
-        1 => (8 + m % 8) as u8,
-        _ => if m / 8 % 2 == 0 { 255 } else { 0 },
-    }
-}
-
-fn heavy(second: u8) -> [u8; 1156] {
-    let mut out = [0u8; 1156];
-    for i in 0..1156usize {
-        out[i] = heavy_byte(second, i);
+    for m in 0..256u16 {
+        let value = if m / 8 % 2 == 0 { 65535 } else { 0 };
+        out.push_body(1, (8 + m % 8) as u8, value);
     }
     out
 }
 
-// The log of one transaction that writes a value of two like bytes to the sixteen gates.
-fn all_gates(half: u8) -> [u8; 72] {
-    let mut out = [0u8; 72];
-    out[0] = 1;
-    out[2] = 16;
-    out[5] = 16;
-    for i in 8..72usize {
-        out[i] = match i % 4 {
-            0 => 1,
-            1 => ((i - 8) / 4 % 16) as u8,
-            _ => half,
-        };
+// The log of one transaction that writes a value to the sixteen gates.
+fn all_gates(value: u16) -> Bytes {
+    let mut out = Bytes::new();
+    out.push_pair(1);
+    out.push_pair(16);
+    out.push_entry(0, 16, 0);
+    for gate in 0..16u8 {
+        out.push_body(1, gate, value);
     }
     out
 }
 
 fn largest() {
-    let up = all_gates(255);
-    let down = all_gates(0);
     text(b"all gates from 0 to 65535; from 65535 to 0:");
-    print(bill_of(decided(&up, 0), 0));
+    print(bill_of(decided(all_gates(65535).as_slice(), 0), 0));
     text(b";");
-    print(bill_of(decided(&down, 65535), 0));
+    print(bill_of(decided(all_gates(0).as_slice(), 65535), 0));
     end();
-    let alone = heavy(0);
     text(b"gates 8 to 15 up and down 16 times by cabinet 0:");
-    print_two(decided(&alone, 0), 0, 1);
+    print_two(decided(heavy(0).as_slice(), 0), 0, 1);
     end();
-    let two = heavy(1);
     text(b"the same, down by cabinet 1:");
-    print_two(decided(&two, 0), 0, 1);
+    print_two(decided(heavy(1).as_slice(), 0), 0, 1);
     end();
 }
 

@@ -13,13 +13,13 @@ fn show(gate: u8) {
     let next = (gate % 16 + 1) % 16;
     let log = log_of(gate, gate, next);
     text(b"gate");
-    number(gate as u64);
+    number(gate);
     text(b" from 500 to 600 by cabinet");
-    number(gate as u64);
+    number(gate);
     text(b", to 540 by cabinet");
-    number(next as u64);
+    number(next);
     text(b":");
-    print_two(decided(&log, 500), gate as usize, next as usize);
+    print_two(decided(&log, 500), usize::from(gate), usize::from(next));
     end();
 }
 

@@ -1,83 +1,33 @@
 // Logs of a few writes, each a transaction of its own: without reads and times the order is that of the log.
+use trial::log::Bytes;
 
-// Up to eight writes: the cabinet, the key and the value of each.
+// A cabinet writes a value to a key.
 #[derive(Clone, Copy)]
-pub struct Writes {
-    pub count: usize,
-    pub cabinet: [u8; 8],
-    pub key: [u8; 8],
-    pub value: [u16; 8],
+pub struct Write {
+    pub cabinet: u8,
+    pub key: u8,
+    pub value: u16,
 }
 
-// None.
-pub(crate) fn none() -> Writes {
-    Writes {
-        count: 0,
-        cabinet: [0; 8],
-        key: [0; 8],
-        value: [0; 8],
+pub(crate) fn by(cabinet: u8, key: u8, value: u16) -> Write {
+    Write {
+        cabinet,
+        key,
+        value,
     }
 }
 
-// One more, behind those.
-pub(crate) fn and(w: Writes, cabinet: u8, key: u8, value: u16) -> Writes {
-    let mut out = w;
-    let i = w.count % 8;
-    out.count = i + 1;
-    out.cabinet[i] = cabinet;
-    out.key[i] = key;
-    out.value[i] = value;
-    out
-}
-
-// One.
-pub(crate) fn one(cabinet: u8, key: u8, value: u16) -> Writes {
-    and(none(), cabinet, key, value)
-}
-
-// How long their log is.
-pub(crate) fn length(w: Writes) -> usize {
-    4 + 8 * (w.count % 9)
-}
-
-// Byte f of the entry of transaction t.
-fn entry_byte(w: Writes, t: usize, f: usize) -> u8 {
-    match f {
-        0 => w.cabinet[t % 8],
-        1 => 1,
-        2 => (t % 8) as u8,
-        _ => 0,
+// The log of at most 32 writes.
+pub(crate) fn log_of(list: &[Write]) -> Bytes {
+    let n = (list.len() % 33) as u16;
+    let mut out = Bytes::new();
+    out.push_pair(n);
+    out.push_pair(n);
+    for (t, w) in (0..n).zip(list) {
+        out.push_entry(w.cabinet, 1, t);
     }
-}
-
-// Byte f of its body.
-fn body_byte(w: Writes, t: usize, f: usize) -> u8 {
-    let value = w.value[t % 8];
-    match f {
-        0 => 1,
-        1 => w.key[t % 8],
-        2 => (value % 256) as u8,
-        _ => (value / 256 % 256) as u8,
-    }
-}
-
-// Byte i of their log.
-fn byte_of(w: Writes, i: usize) -> u8 {
-    let n = w.count % 9;
-    if i < 4 {
-        return if i % 2 == 0 { n as u8 } else { 0 };
-    }
-    if i < 4 + 4 * n {
-        return entry_byte(w, (i - 4) / 4, i % 4);
-    }
-    body_byte(w, (i - 4 - 4 * n) / 4, i % 4)
-}
-
-// Their log, with more bytes behind it.
-pub(crate) fn log_of(w: Writes) -> [u8; 68] {
-    let mut out = [0u8; 68];
-    for i in 0..68usize {
-        out[i] = byte_of(w, i);
+    for w in list {
+        out.push_body(1, w.key, w.value);
     }
     out
 }

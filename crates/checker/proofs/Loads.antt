@@ -2,19 +2,19 @@
 use Prim.Native.Nat.{ℕ}
 use native.Mathlib.Omega.{arith}
 use mathlib.Core.Path.{◌≡◌, sym, ap, ap₂, ◌∙◌}
-use mathlib.Core.Logic.{◌≢◌}
 use mathlib.Core.Bool.{Bool, true, false, cond}
 use borrow.Author.Tests.{eq-eqb, ne_eqb}
 use Rattle.model.specs.Window.{Window, window_number}
 use Rattle.checker.specs.declared.Case.{Case}
 use Rattle.checker.specs.declared.Answer.{Answer}
-use Rattle.answers.specs.declared.Reply.{Reply}
-use Rattle.answers.specs.declared.Reply.TheVariants.{Taken, Refused}
+use Rattle.std.specs.Prelude.{Result, Ok, Err}
+use Rattle.refusals.specs.declared.Refusal.{Refusal}
+use Rattle.refusals.specs.Numbers.{code}
+use Rattle.refusals.proofs.Numbering.{code_some}
 use Rattle.checker.specs.Cases.{stage_of, loaded_case}
 use Rattle.answers.specs.Stages.{is_fresh}
-use Rattle.answers.specs.Numbers.{reply_of}
 use Rattle.checker.specs.Calls.{load_refusal, case_after_load, loading}
-use Rattle.answers.proofs.Answering.{reply_none, reply_some}
+use Rattle.answers.proofs.Answering.{reply_is}
 
 -- ---- the number
 
@@ -37,16 +37,15 @@ module _ (c : Case) (w : Window) where
 
   -- ---- the answer
 
-  abbrev answer : Case → Reply → Answer
+  abbrev answer : Case → Result (Unit {0}) Refusal → Answer
   answer x r = record { case = x; reply = r }
 
-  pub load_refused : (n : ℕ) → n ≡ load_refusal c w → n ≢ 0 → record { case = c; reply = Refused n } ≡ loading c w
+  pub load_refused : (r : Refusal) → code r ≡ load_refusal c w → record { case = c; reply = Err r } ≡ loading c w
   unfolding loading case_after_load
-  load_refused n e f =
-      let g : load_refusal c w ≢ 0 = λ z. f (e ∙ z) in
-      ap₂ answer (sym (ap (λ x. cond x (loaded_case w) c) (ne_eqb (load_refusal c w) 0 g))) (sym (reply_some n f) ∙ ap reply_of e)
+  load_refused r e =
+      ap₂ answer (sym (ap (λ x. cond x (loaded_case w) c) (ne_eqb (load_refusal c w) 0 (λ z. code_some r (e ∙ z))))) (reply_is (Err r) (load_refusal c w) e)
 
-  pub load_taken : (d : Case) → load_refusal c w ≡ 0 → d ≡ loaded_case w → record { case = d; reply = Taken } ≡ loading c w
+  pub load_taken : (d : Case) → load_refusal c w ≡ 0 → d ≡ loaded_case w → record { case = d; reply = Ok tt } ≡ loading c w
   unfolding loading case_after_load
   load_taken d e p =
-      ap₂ answer (p ∙ sym (ap (λ x. cond x (loaded_case w) c) (eq-eqb (load_refusal c w) 0 e))) (sym (reply_none (load_refusal c w) e))
+      ap₂ answer (p ∙ sym (ap (λ x. cond x (loaded_case w) c) (eq-eqb (load_refusal c w) 0 e))) (reply_is (Ok tt) (load_refusal c w) (sym e))

@@ -5,7 +5,10 @@ use mathlib.Core.Logic.{◌⊎◌}
 use mathlib.Core.Bool.{Bool, true, false, cond}
 use mathlib.Core.List.{List}
 use mathlib.Core.Option.{Option, none, some}
-use lib.Dec.{T, eqb, eqb→eq}
+use lib.Dec.{T, eqb}
+use Rattle.std.specs.Prelude.{Ok, Err}
+use Rattle.refusals.specs.Numbers.{number_of, refusal_of, answer_of}
+use Rattle.checker.proofs.Encodes.{encode_known}
 use lib.ListN.{length, take, replicate}
 use lib.Seq.{take_at}
 use Rattle.model.specs.History.{History, size, legal}
@@ -23,7 +26,7 @@ pub numbers_of : (h : History) (o : List ℕ) → T (legal h o) → take (size h
 unfolding order_numbers
 numbers_of h o l = take_at o (replicate (32 - length o) 0) (size h) (legal_length h o l)
 
-found_answers : (h : History) (x : Option (List ℕ)) → Found h x → Answers h (verdict_for x) (order_numbers x)
+found_answers : (h : History) (x : Option (List ℕ)) → Found h x → Answers h (Ok (verdict_for x)) (order_numbers x)
 unfolding Answers
 found_answers h none f = f
 found_answers h (some o) f =
@@ -47,8 +50,8 @@ deciding_answers c e pruning places = go (eqb (decide_refusal c e pruning places
 
 -- the number is document 01's
 pub deciding_number : (c : Case) (e pruning places : ℕ) → verdict_number (deciding c e pruning places).verdict ≡ decide_refusal c e pruning places
-unfolding deciding decided refused_decision
-deciding_number c e pruning places = go (eqb n 0) (λ t. eqb→eq n 0 t)
+unfolding deciding decided refused_decision answer_of
+deciding_number c e pruning places = go (eqb n 0) ∙ encode_known c e pruning places 32
   where
     n : ℕ
     n = decide_refusal c e pruning places
@@ -56,10 +59,7 @@ deciding_number c e pruning places = go (eqb n 0) (λ t. eqb→eq n 0 t)
     h : History
     h = history_in c
 
-    plain : (x : Option (List ℕ)) → verdict_number (verdict_for x) ≡ 0
-    plain none = refl
-    plain (some o) = refl
-
-    go : (b : Bool) → (T b → n ≡ 0) → verdict_number (cond b (decided c (first_legal h) (encoded_count h e pruning)) (refused_decision c n)).verdict ≡ n
-    go true f = plain (first_legal h) ∙ sym (f tt)
-    go false f = refl
+    go : (b : Bool) → verdict_number (cond b (decided c (first_legal h) (encoded_count h e pruning)) (refused_decision c n)).verdict
+        ≡ number_of {X = Unit {0}} (cond b (Ok tt) (Err (refusal_of n)))
+    go true = refl
+    go false = refl

@@ -1,5 +1,5 @@
 -- Demand 3's parts: what Encode's lists hold, taken as a polygraph, and what a decision says and leaves. Assumes nothing.
-use Prim.Native.Nat.{ℕ, zero, suc, ◌+◌, ◌≤◌, ◌<◌}
+use Prim.Native.Nat.{ℕ, zero, suc, ◌≤◌, ◌<◌}
 use native.Mathlib.Omega.{arith}
 use mathlib.Core.Path.{◌≡◌, refl, sym, ap, ap₂, subst, ◌∙◌}
 use mathlib.Core.Logic.{◌↔◌}
@@ -25,7 +25,9 @@ use Rattle.model.proofs.Selection.{serializable}
 use Rattle.answers.specs.declared.Stage.{Stage}
 use Rattle.answers.specs.declared.Stage.TheVariants.{Fresh, Loaded, Ordered, NoOrder}
 use Rattle.answers.specs.declared.Verdict.{Verdict}
-use Rattle.answers.specs.declared.Verdict.TheVariants.{Order, NoOrder as NoOrderSaid, Refused}
+use Rattle.answers.specs.declared.Verdict.TheVariants.{Order, NoOrder as NoOrderSaid}
+use Rattle.std.specs.Prelude.{Result, Ok, Err}
+use Rattle.refusals.specs.declared.Refusal.{Refusal}
 use Rattle.checker.specs.declared.Case.{Case}
 use Rattle.checker.specs.declared.Decision.{Decision}
 use Rattle.wear.specs.Wear.{moves}
@@ -133,12 +135,12 @@ module _ (c : Case) (e pruning : ℕ) (ys : List Constraint) (ws : List ℕ) (ru
 -- ---- Decide
 
 -- a verdict says one thing
-abbrev says_order : Verdict → Bool
-says_order Order = true
-says_order NoOrderSaid = false
-says_order (Refused n) = false
+abbrev says_order : Result Verdict Refusal → Bool
+says_order (Ok Order) = true
+says_order (Ok NoOrderSaid) = false
+says_order (Err r) = false
 
-order_not_none : Order ≡ NoOrderSaid → ⊥
+order_not_none : ◌≡◌ {A = Result Verdict Refusal} (Ok Order) (Ok NoOrderSaid) → ⊥
 order_not_none e = subst (λ v. T (says_order v)) e tt
 
 -- and so does a stage
@@ -244,7 +246,7 @@ module _ (c : Case) (e pruning places : ℕ) (runs : decide_refusal c e pruning 
     pub again_same : SameAnswer (deciding c e pruning places) (deciding after e' pruning' places')
     unfolding decided
     again_same = record {
-      verdict = ap (λ (d : Decision). d.verdict) second ∙ ap verdict_for x_is ∙ sym (ap (λ (d : Decision). d.verdict) first);
+      verdict = ap (λ (d : Decision). d.verdict) second ∙ ap (λ (y : Option (List ℕ)). Ok (verdict_for y)) x_is ∙ sym (ap (λ (d : Decision). d.verdict) first);
       order = ap (λ (d : Decision). d.order) second ∙ ap order_numbers x_is ∙ sym (ap (λ (d : Decision). d.order) first);
       case =
           case_is after e' pruning' places' runs' ∙ ap₂ decided_case (case_is c e pruning places runs) x_is ∙ stored_again c x x

@@ -1,21 +1,17 @@
 -- Order, Table and Bills by their tests: a case that none refuses is decided with an order. Assumes nothing.
 use Prim.Native.Nat.{ℕ, ◌≤◌}
-use mathlib.Core.Path.{◌≡◌, sym, ap, ap₂, ◌∙◌}
-use mathlib.Core.Logic.{⊎_elim, ◌≢◌}
+use mathlib.Core.Path.{◌≡◌, sym, ap, ap₂, subst, ◌∙◌}
+use mathlib.Core.Logic.{◌≢◌}
 use mathlib.Core.Bool.{true, cond}
 use mathlib.Core.List.{List, ◌++◌}
 use lib.Dec.{T, eqb}
 use lib.ListN.{length, take, drop}
-use lib.Seq.{take_all}
-use native.Mathlib.Omega.{arith}
 use borrow.Author.Tests.{eq-eqb, ne_eqb}
 use Rattle.model.specs.History.{is_order, replay}
 use Rattle.model.specs.Log.{transactions_in, history_of}
 use Rattle.model.proofs.Times.{timed_table}
-use Rattle.model.proofs.Basics.{same?}
-use Rattle.model.proofs.Words.{length_up_to}
 use Rattle.wear.specs.Wear.{moves}
-use Rattle.wear.specs.Bills.{bill_of, bills_of}
+use Rattle.wear.specs.Bills.{bills_of}
 use Rattle.wear.specs.declared.Bill.{Bill}
 use Rattle.wear.proofs.Timing.{timed_moves}
 use Rattle.answers.specs.Clocks.{times_in}
@@ -24,18 +20,17 @@ use Rattle.answers.specs.declared.Stage.{Stage}
 use Rattle.answers.specs.declared.Stage.TheVariants.{Ordered}
 use Rattle.checker.specs.declared.Case.{Case}
 use Rattle.checker.specs.declared.Answer.{Answer}
-use Rattle.answers.specs.declared.Reply.{Reply}
-use Rattle.answers.specs.declared.Reply.TheVariants.{Taken, Refused}
+use Rattle.std.specs.Prelude.{Result}
+use Rattle.refusals.specs.declared.Refusal.{Refusal}
+use Rattle.refusals.specs.Numbers.{number_of}
+use Rattle.logs.specs.declared.times.TimedLog.{TimedLog}
+use Rattle.checker.specs.Holding.{HeldBy}
 use Rattle.checker.specs.Cases.{contents, history_in, order_in, stage_of}
 use Rattle.answers.specs.Stages.{holds_window, claims_order, is_fresh}
-use Rattle.answers.specs.Copies.{copied}
-use Rattle.answers.specs.Numbers.{number_of, reply_of}
-use Rattle.checker.specs.Results.{order_refused, table_refused, bills_refused, replying, order_left, table_left, bills_in, bills_left, Bills}
-use Rattle.checker.specs.Making.{Makes}
-use Rattle.checker.specs.declared.results.Made.{Made}
+use Rattle.checker.specs.Results.{order_refused, table_refused, bills_refused, replying, order_left, table_left, bills_in, bills_left}
 use Rattle.answers.specs.Stages.{refused_by}
 use Rattle.checker.proofs.Holding.{case_holds}
-use Rattle.answers.proofs.Answering.{number_reply, reply_none, reply_some}
+use Rattle.answers.proofs.Answering.{reply_is}
 use Rattle.answers.proofs.Holding.{counted_ordered, refused_fresh, refused_none}
 
 -- ---- a case that is decided with an order
@@ -48,6 +43,12 @@ module _ (c : Case) where
     pub ordered_order : T (is_order (transactions_in (contents c)) (order_in c))
     unfolding stage_of claims_order
     ordered_order = counted_ordered c.stage (holds_window c.bytes c.length c.clock) (claims_order c.bytes c.length c.order) e
+
+  -- so the order of a case is one of the log that is taken out of it
+  pub order_held : (w : TimedLog) → HeldBy c w → (n : ℕ) → n ≡ transactions_in w.log.bytes.now → stage_of c ≡ Ordered → T (is_order (transactions_in w.log.bytes.now) (take n c.order))
+  order_held w h n is e =
+      subst (λ m. T (is_order (transactions_in w.log.bytes.now) (take m c.order))) (sym is)
+      (subst (λ m. T (is_order m (take m c.order))) (sym (ap transactions_in h.log_is)) (ordered_order e))
 
   module _ (places : ℕ) where
     pub order_stage : order_refused c places ≡ 0 → stage_of c ≡ Ordered
@@ -99,16 +100,12 @@ module _ (c : Case) where
 
   -- ---- the answers
 
-  abbrev answer : Reply → Answer
-  answer r = record { case = c; reply = r }
-
-  pub replying_refused : (n m : ℕ) → n ≡ m → n ≢ 0 → record { case = c; reply = Refused n } ≡ replying c m
+  pub replying_is : (r : Result (Unit {0}) Refusal) (n : ℕ) → number_of r ≡ n → record { case = c; reply = r } ≡ replying c n
   unfolding replying
-  replying_refused n m e f = ap answer (sym (reply_some n f) ∙ ap reply_of e)
-
-  pub replying_taken : (m : ℕ) → m ≡ 0 → record { case = c; reply = Taken } ≡ replying c m
-  unfolding replying
-  replying_taken m e = ap answer (sym (reply_none m e))
+  replying_is r n e = ap (λ (x : Result (Unit {0}) Refusal). answer x) (reply_is r n e)
+    where
+      answer : Result (Unit {0}) Refusal → Answer
+      answer x = record { case = c; reply = x }
 
   -- ---- the lent lists
 
@@ -136,9 +133,9 @@ module _ (c : Case) where
     table_left_lem zs e p = p ∙ written (table_refused c (length ys)) (written_table (history_in c) c.starting (order_in c) ys) e
 
     -- what is written, as the code copies it
-    pub order_written : (n : ℕ) (zs : List ℕ) → n ≡ transactions_in (contents c) → zs ≡ copied n c.order ys → zs ≡ written_order (transactions_in (contents c)) c.order ys
+    pub order_written : (n : ℕ) (zs : List ℕ) → n ≡ transactions_in (contents c) → zs ≡ take n c.order ++ drop n ys → zs ≡ written_order (transactions_in (contents c)) c.order ys
     unfolding written_order
-    order_written n zs p e = e ∙ ap (λ k. copied k c.order ys) p
+    order_written n zs p e = e ∙ ap (λ k. take k c.order ++ drop k ys) p
 
     -- the table of the log is that of the log with its times
     pub table_written : (n : ℕ) (zs : List ℕ) → n ≡ transactions_in (contents c) → zs ≡ written_table (history_of (contents c)) c.starting (take n c.order) ys → zs ≡ written_table (history_in c) c.starting (order_in c) ys
@@ -149,32 +146,12 @@ module _ (c : Case) where
 
   -- ---- the lent list of bills, as Bills leaves it
 
-  pub bills_billing : (ys zs : List Bill) (m : Made) (r : Answer) → Makes c (length ys) m → zs ≡ take m.count m.bills ++ drop m.count ys → r ≡ replying c m.number → Bills c ys r zs
-  unfolding bills_left replying
-  bills_billing ys zs m r made left said =
-      ⊎_elim
-      (λ (z : m.number ≡ 0).
-      let sixteen : length (bills_in c) ≡ 16 = bills_long in
-      record {
-        result = is;
-        number = shown;
-        list = left ∙ ap (λ k. take k m.bills ++ drop k ys) (made.all z) ∙ ap (λ (bs : List Bill). take 16 bs ++ drop 16 ys) (made.are_bills z)
-            ∙ ap (λ (bs : List Bill). bs ++ drop 16 ys) (take_all 16 (bills_in c) (omega (arith, sixteen)))
-            ∙ sym (ap (λ b. cond b (bills_in c ++ drop 16 ys) ys) (eq-eqb (bills_refused c (length ys)) 0 (sym made.is_number ∙ z)));
-      })
-      (λ (f : m.number ≢ 0). record {
-        result = is;
-        number = shown;
-        list = left ∙ ap (λ k. take k m.bills ++ drop k ys) (made.none f)
-            ∙ sym (ap (λ b. cond b (bills_in c ++ drop 16 ys) ys) (ne_eqb (bills_refused c (length ys)) 0 (λ z. f (made.is_number ∙ z))));
-      })
-      (same? m.number 0)
-    where
-      is : r ≡ replying c (bills_refused c (length ys))
-      is = said ∙ ap (replying c) made.is_number
+  module _ (ys : List Bill) where
+    pub bills_as_was : bills_refused c (length ys) ≢ 0 → ys ≡ bills_left c ys
+    unfolding bills_left
+    bills_as_was f = sym (ap (λ b. cond b (bills_in c ++ drop 16 ys) ys) (ne_eqb (bills_refused c (length ys)) 0 f))
 
-      shown : number_of r.reply ≡ bills_refused c (length ys)
-      shown = ap (λ (x : Answer). number_of x.reply) is ∙ number_reply (bills_refused c (length ys))
-
-      bills_long : length (bills_in c) ≡ 16
-      bills_long = unfold bills_in in unfold bills_of in length_up_to (bill_of (moves (history_in c) c.starting (order_in c))) 16
+    pub bills_left_lem : (bs : List Bill) → bills_refused c (length ys) ≡ 0 → bs ≡ bills_in c → bs ++ drop 16 ys ≡ bills_left c ys
+    unfolding bills_left
+    bills_left_lem bs e is =
+        ap (λ (x : List Bill). x ++ drop 16 ys) is ∙ sym (ap (λ b. cond b (bills_in c ++ drop 16 ys) ys) (eq-eqb (bills_refused c (length ys)) 0 e))

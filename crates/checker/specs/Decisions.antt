@@ -1,6 +1,8 @@
 -- What Decide gives and leaves, refused or not: document 01, 'The calls' and the two pages of refusals. Assumes nothing.
-use Rattle.std.specs.Prelude.{ℕ, ◌≡◌, ◌⊎◌, cond, List, T, eqb, length, take, replicate}
+use Rattle.std.specs.Prelude.{ℕ, ◌≡◌, ◌⊎◌, cond, List, T, eqb, length, take, replicate, Result, Ok, Err}
 use Rattle.std.proofs.Math.Option.{Option, none, some}
+use Rattle.refusals.specs.declared.Refusal.{Refusal}
+use Rattle.refusals.specs.Numbers.{refusal_of}
 use Rattle.model.specs.declared.Constraint.{Constraint}
 use Rattle.model.specs.History.{History, size, legal}
 use Rattle.model.specs.Lent.{encoded_list, encoded_count, order_numbers}
@@ -8,7 +10,7 @@ use Rattle.model.specs.Search.{first_legal, LexLess}
 use Rattle.answers.specs.declared.Stage.{Stage}
 use Rattle.answers.specs.declared.Stage.TheVariants.{Ordered, NoOrder}
 use Rattle.answers.specs.declared.Verdict.{Verdict}
-use Rattle.answers.specs.declared.Verdict.TheVariants.{Order, NoOrder as NoOrderSaid, Refused}
+use Rattle.answers.specs.declared.Verdict.TheVariants.{Order, NoOrder as NoOrderSaid}
 use Rattle.checker.specs.declared.Case.{Case}
 use Rattle.checker.specs.declared.Decision.{Decision}
 use Rattle.checker.specs.Cases.{history_in, answered_case}
@@ -34,10 +36,10 @@ decided_case c answer = answered_case c (stage_for answer) (order_numbers answer
 
 -- the answer where Decide is not refused: the first legal order, or 'no order', with the count that Encode gives
 unfoldable pub decided : Case → Option (List ℕ) → ℕ → Decision
-decided c answer n = record { case = decided_case c answer; verdict = verdict_for answer; order = order_numbers answer; left = n }
+decided c answer n = record { case = decided_case c answer; verdict = Ok (verdict_for answer); order = order_numbers answer; left = n }
 
 unfoldable pub refused_decision : Case → ℕ → Decision
-refused_decision c number = record { case = c; verdict = Refused number; order = replicate 32 0; left = 0 }
+refused_decision c number = record { case = c; verdict = Err (refusal_of number); order = replicate 32 0; left = 0 }
 
 unfoldable pub deciding : Case → ℕ → ℕ → ℕ → Decision
 deciding c e pruning places =
@@ -46,11 +48,11 @@ deciding c e pruning places =
 
 -- Demand 3 in its own words: 'no order' only where no legal order exists; otherwise the order's T numbers are a legal order which has, against
 -- every other legal one, the lower number at the first place where the two differ.
-unfoldable pub Answers : History → Verdict → List ℕ → Type 0
-Answers h NoOrderSaid order = (p : List ℕ) → T (legal h p) → ⊥
-Answers h Order order =
+unfoldable pub Answers : History → Result Verdict Refusal → List ℕ → Type 0
+Answers h (Ok NoOrderSaid) order = (p : List ℕ) → T (legal h p) → ⊥
+Answers h (Ok Order) order =
     T (legal h (take (size h) order)) × ((p : List ℕ) → T (legal h p) → (p ≡ take (size h) order) ⊎ LexLess (take (size h) order) p)
-Answers h (Refused n) order = Unit {0}
+Answers h (Err r) order = Unit {0}
 
 -- the lent list after Decide: the same as after Encode
 unfoldable pub list_after_decide : Case → ℕ → ℕ → List Constraint → List Constraint

@@ -1,7 +1,7 @@
 -- Demand 3 in one piece, over what the calls give and leave: what Encode's two lists hold, what Decide answers in every setting and again, and
 -- what Order and Table then write; from the log's bytes, the starting table and the times on. `demand_3` in proofs/Demands.antt proves it. What Bills then writes is
 -- `Demand3WithBills`, which `demand_3_with_bills` proves. Assumes nothing.
-use Rattle.std.specs.Prelude.{ℕ, ◌≡◌, ◌⊎◌, ◌↔◌, List, ◌++◌, T, length, take, drop}
+use Rattle.std.specs.Prelude.{ℕ, ◌≡◌, ◌⊎◌, ◌↔◌, List, ◌++◌, T, length, take, drop, Ok}
 use Rattle.model.specs.declared.Constraint.{Constraint}
 use Rattle.model.specs.History.{History, size, legal, replay, every_read_sees_the_value_it_names}
 use Rattle.model.specs.Window.{Window, window_history}
@@ -41,11 +41,11 @@ IsFirst h o = T (legal h o) × ((p : List ℕ) → T (legal h p) → (p ≡ o) �
 -- numbers are then the first legal order. Its case counts as decided so, and Order and Table of that case, where they aren't refused, write
 -- this order and the table which its replay leaves, from the window's starting table.
 pub record Settles (w : Window) (d : Decision) : Type 0 where
-  pub none : (d.verdict ≡ NoOrderSaid) ↔ (Serializable (window_history w) → ⊥)
-  pub some : (d.verdict ≡ Order) ↔ Serializable (window_history w)
-  pub first : d.verdict ≡ Order → IsFirst (window_history w) (take (size (window_history w)) d.order)
-  pub none_stage : d.verdict ≡ NoOrderSaid → stage_of d.case ≡ NoOrder
-  pub some_stage : d.verdict ≡ Order → stage_of d.case ≡ Ordered
+  pub none : (d.verdict ≡ Ok NoOrderSaid) ↔ (Serializable (window_history w) → ⊥)
+  pub some : (d.verdict ≡ Ok Order) ↔ Serializable (window_history w)
+  pub first : d.verdict ≡ Ok Order → IsFirst (window_history w) (take (size (window_history w)) d.order)
+  pub none_stage : d.verdict ≡ Ok NoOrderSaid → stage_of d.case ≡ NoOrder
+  pub some_stage : d.verdict ≡ Ok Order → stage_of d.case ≡ Ordered
   pub order : (out : List ℕ) → order_refused d.case (length out) ≡ 0
       → order_left d.case out ≡ take (size (window_history w)) d.order ++ drop (size (window_history w)) out
   pub table : (out : List ℕ) → table_refused d.case (length out) ≡ 0
@@ -86,7 +86,7 @@ pub record FromBytes (c : Case) (w : Window) : Type 0 where
   pub settles : (e pruning places : ℕ) → decide_refusal (case_after_load c w) e pruning places ≡ 0 → Settles w (deciding (case_after_load c w) e pruning places)
   -- in the replay of the order, from the starting table, every read sees the value that it names
   pub values : (e pruning places : ℕ) → decide_refusal (case_after_load c w) e pruning places ≡ 0 → let d = deciding (case_after_load c w) e pruning places in
-      d.verdict ≡ Order → T (every_read_sees_the_value_it_names (window_history w) w.starting (take (size (window_history w)) d.order))
+      d.verdict ≡ Ok Order → T (every_read_sees_the_value_it_names (window_history w) w.starting (take (size (window_history w)) d.order))
 
 -- Demand 3.
 pub record Demand3 : Type 0 where

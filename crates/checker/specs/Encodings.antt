@@ -1,14 +1,16 @@
 -- What Encode gives and leaves, refused or not: document 01, 'The calls' and the two pages of refusals. Assumes nothing.
-use Rattle.std.specs.Prelude.{ℕ, ◌≤◌, ◌≡◌, cond, List, eqb, length}
+use Rattle.std.specs.Prelude.{ℕ, ◌≤◌, ◌≡◌, cond, List, eqb, length, Result, IfOk}
 use Rattle.model.specs.Lent.{encoded_list, encoded_rows, encoded_count}
 use Rattle.model.specs.declared.Constraint.{Constraint}
 use Rattle.encoding.specs.Writing.{Planned, Writable}
 use Rattle.checker.specs.declared.Case.{Case}
 use Rattle.checker.specs.declared.Encoding.{Encoding}
-use Rattle.checker.specs.declared.polygraphs.Planning.{Planning}
 use Rattle.checker.specs.Cases.{history_in, stage_of}
 use Rattle.answers.specs.Stages.{is_fresh}
-use Rattle.answers.specs.Numbers.{number_of, reply_of}
+use Rattle.answers.specs.Numbers.{reply_of}
+use Rattle.refusals.specs.declared.Refusal.{Refusal}
+use Rattle.refusals.specs.Numbers.{number_of}
+use Rattle.encoding.specs.declared.Known.{Known}
 use Rattle.finding.specs.Settings.{polygraph_refusal}
 
 -- Encode tests 22, a fresh case, then 12, 25.
@@ -37,9 +39,13 @@ pub record Encodes (c : Case) (e pruning : ℕ) (ys : List Constraint) (ws : Lis
   pub list : zs ≡ encode_list c e pruning ys (length ws)
   pub rows : vs ≡ encode_rows c e pruning (length ys) ws
 
--- what is decided before anything is written
-pub record Plans (c : Case) (e pruning places words : ℕ) (r : Planning) : Type 0 where
-  pub number_is : r.number ≡ encode_refusal c e pruning places words
-  pub plan : r.number ≡ 0 → Planned (history_in c) e r.plan.tables r.plan.chosen r.rows r.plan.count
-  pub ready : r.number ≡ 0 → Writable r.plan.count places
-  pub room : r.number ≡ 0 → 32 ≤ words
+-- what is planned before anything is written: the polygraph, with a place for each constraint among the numbers and in the list, and for its row words
+pub record Ready (c : Case) (e pruning places words : ℕ) (t ks : List ℕ) (k : Known) : Type 0 where
+  pub low : pruning ≤ 1
+  pub plan : Planned (history_in c) e t ks k.rows k.count
+  pub writable : Writable k.count places
+  pub room : 32 ≤ words
+
+pub record Plans (c : Case) (e pruning places words : ℕ) (t ks : List ℕ) (r : Result Known Refusal) : Type 0 where
+  pub number_is : number_of r ≡ encode_refusal c e pruning places words
+  pub ready : IfOk r (λ k. Ready c e pruning places words t ks k)

@@ -1,7 +1,7 @@
 pub mod Cases
+pub mod Holding
 pub mod Calls
 pub mod Results
-pub mod Making
 pub mod Encodings
 pub mod Decisions
 pub mod Preparing

@@ -8,7 +8,8 @@ use Rattle.wear.specs.declared.Bill.{Bill}
 use Rattle.checker.specs.declared.Case.{Case}
 use Rattle.checker.specs.declared.Answer.{Answer}
 use Rattle.checker.specs.Cases.{contents, history_in, order_in, stage_of}
-use Rattle.answers.specs.Numbers.{number_of, reply_of}
+use Rattle.answers.specs.Numbers.{reply_of}
+use Rattle.refusals.specs.Numbers.{number_of}
 use Rattle.answers.specs.Stages.{refused_by}
 
 -- Order needs T places, Table 32, Bills 16.

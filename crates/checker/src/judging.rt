@@ -3,27 +3,14 @@ ghost use Rattle.std.specs.Prelude.{◌≡◌};
 ghost use Rattle.answers.specs.Numbers.{judgement_of};
 ghost use Rattle.checker.specs.Calls.{check_refusal, check_yes};
 
-use crate::held::is_fresh;
+use crate::held::loaded_window;
 use crate::{Case, Judgement};
+use refusals::Refusal;
 
 // The judgement over a case.
-pub(crate) fn judged(c: Case, proposed: &[u8]) -> Judgement
-    ensures { result ≡ judgement_of (check_refusal c proposed.now) (check_yes c proposed.now) }
+pub(crate) fn judged(c: &Case, proposed: &[u8]) -> Result<Judgement, Refusal>
+    ensures { result ≡ judgement_of (check_refusal c.now proposed.now) (check_yes c.now proposed.now) }
 {
-    if is_fresh(c) {
-        return Judgement::Refused(22);
-    }
-    let bytes = c.bytes;
-    let length = c.length;
-    let clock = c.clock;
-    let count = clock.count;
-    let begin = clock.begin;
-    let end = clock.end;
-    answers::judging::judged(
-        &bytes[..length],
-        &begin[..count],
-        &end[..count],
-        clock.drift,
-        proposed,
-    )
+    let w = loaded_window(c)?;
+    answers::judging::judged(w, proposed)
 }

@@ -1,4 +1,5 @@
 // The case and the calls. A case goes into each call by value and comes back from it in the answer.
+// A setting comes as document 01's two numbers, which a caller may get wrong (12); behind that test it is a `Setting`.
 // Anyone may put a case together, so each call first finds the stage that it counts as (`held::stage_of`); no call requires anything.
 #![tactic(auto)]
 
@@ -10,21 +11,24 @@ ghost use Rattle.checker.specs.Calls.{loading, load_refusal, checking, check_ref
 ghost use Rattle.checker.specs.Results.{order_refused, order_left, table_refused, table_left, replying, Bills};
 ghost use Rattle.checker.specs.Encodings.{Encodes};
 ghost use Rattle.checker.specs.Decisions.{Decides};
-ghost use Rattle.answers.specs.Numbers.{number_of, judgement_number, judgement_yes};
+ghost use Rattle.answers.specs.Numbers.{judgement_number, judgement_yes};
+ghost use Rattle.refusals.specs.Numbers.{number_of};
 
-pub use answers::{Clock, Judgement, Reply, Stage, Verdict};
+pub use answers::{Clock, Judgement, Stage, Verdict};
+use listing::{PLACES, WORDS};
+use logs::times::Times;
 use model::Constraint;
+pub use refusals::Refusal;
 pub use wear::Bill;
 
 mod deciding;
 mod held;
 mod judging;
-mod plans;
 mod polygraphs;
 mod results;
 
 // The stage that it says, the log in its room, the table that the window starts from, its times, and the order.
-#[derive(Clone, Copy)]
+#[derive(Clone, Copy, PartialEq, Eq)]
 pub struct Case {
     pub stage: Stage,
     pub bytes: [u8; 1156],
@@ -35,31 +39,31 @@ pub struct Case {
 }
 
 // The case after the call, and the reply.
-#[derive(Clone, Copy)]
+#[derive(Clone, Copy, PartialEq, Eq)]
 pub struct Answer {
     pub case: Case,
-    pub reply: Reply,
+    pub reply: Result<(), Refusal>,
 }
 
-#[derive(Clone, Copy)]
+#[derive(Clone, Copy, PartialEq, Eq)]
 pub struct Checking {
     pub case: Case,
-    pub judgement: Judgement,
+    pub judgement: Result<Judgement, Refusal>,
 }
 
 // The case as it was, the reply, and the count of constraints left.
-#[derive(Clone, Copy)]
+#[derive(Clone, Copy, PartialEq, Eq)]
 pub struct Encoding {
     pub case: Case,
-    pub reply: Reply,
+    pub reply: Result<(), Refusal>,
     pub left: usize,
 }
 
 // The case with the answer stored, the verdict, the order as 32 numbers, and the count that Encode gives.
-#[derive(Clone, Copy)]
+#[derive(Clone, Copy, PartialEq, Eq)]
 pub struct Decision {
     pub case: Case,
-    pub verdict: Verdict,
+    pub verdict: Result<Verdict, Refusal>,
     pub order: [u8; 32],
     pub left: usize,
 }
@@ -92,18 +96,20 @@ impl Case {
         ensures result { result ≡ loading self (window log.now starting.now (times begin.now end.now drift)) }
         ensures number { number_of result.reply ≡ load_refusal self (window log.now starting.now (times begin.now end.now drift)) }
     {
-        let number = held::load_refusal(self, log, starting, begin, end, drift);
-        if number != 0 {
-            return Answer {
+        let clock = Times { begin, end, drift };
+        match held::test_load(&self, log, starting, clock) {
+            Err(refusal) => Answer {
                 case: self,
-                reply: Reply::Refused(number),
-            };
-        }
-        let loaded = held::loaded(log, starting, begin, end, drift);
-        self = loaded;
-        Answer {
-            case: self,
-            reply: Reply::Taken,
+                reply: Err(refusal),
+            },
+            Ok(()) => {
+                let loaded = held::loaded(log, starting, clock);
+                self = loaded;
+                Answer {
+                    case: self,
+                    reply: Ok(()),
+                }
+            }
         }
     }
 
@@ -117,27 +123,62 @@ impl Case {
     ) -> Encoding
         ensures { Encodes self encoding pruning list.old rows.old result list.new rows.new }
     {
-        let p = polygraphs::planned(self, encoding, pruning, list.len(), rows.len());
-        if p.number != 0 {
-            return polygraphs::answer(self, p.number, 0);
+        let mut tables = [0u32; WORDS];
+        let mut chosen = [0u16; PLACES];
+        match polygraphs::planned(
+            &self,
+            encoding,
+            pruning,
+            list.len(),
+            rows.len(),
+            &mut tables,
+            &mut chosen,
+        ) {
+            Err(refusal) => Encoding {
+                case: self,
+                reply: Err(refusal),
+                left: 0,
+            },
+            Ok(known) => {
+                let r = encoding::write(
+                    &tables,
+                    &chosen,
+                    known.rows,
+                    known.count,
+                    pruning == 1,
+                    list,
+                );
+                rows[..32].copy_from_slice(&r.rows);
+                Encoding {
+                    case: self,
+                    reply: Ok(()),
+                    left: usize::from(r.left),
+                }
+            }
         }
-        let tables = p.plan.tables;
-        let chosen = p.plan.chosen;
-        let r = encoding::write(&tables, &chosen, p.rows, p.plan.count, pruning, list);
-        answers::copies::copy_rows(r.rows, rows);
-        polygraphs::answer(self, 0, r.left)
     }
 
     // Writes the constraints of a setting to the list, as Encode does; stores and gives the first legal order, or 'no order'.
     pub fn decide(mut self, encoding: u8, pruning: u8, list: &mut [Constraint]) -> Decision
         ensures { Decides self encoding pruning list.old result list.new }
     {
-        let p = deciding::prepare(self, encoding, pruning, list.len());
-        let tables = p.plan.tables;
-        let chosen = p.plan.chosen;
-        encoding::write_left(&tables, &chosen, p.left, p.plan.count, list);
-        self = deciding::stored(self, p.number, p.found, p.order);
-        deciding::answer(self, p.number, p.found, p.order, p.left)
+        let mut tables = [0u32; WORDS];
+        let mut chosen = [0u16; PLACES];
+        match deciding::prepare(
+            &self,
+            encoding,
+            pruning,
+            list.len(),
+            &mut tables,
+            &mut chosen,
+        ) {
+            Err(refusal) => deciding::refused(self, refusal),
+            Ok(found) => {
+                encoding::write_left(&tables, &chosen, found.left, found.count, list);
+                self = deciding::stored(self, found.order);
+                deciding::answered(self, found.order, found.left)
+            }
+        }
     }
 
     // Writes the order's T numbers as bytes.
@@ -146,18 +187,8 @@ impl Case {
         ensures number { number_of result.reply ≡ order_refused self (length out.old) }
         ensures list { out.new ≡ order_left self out.old }
     {
-        let number = results::order_refused(self, out.len());
-        if number != 0 {
-            return Answer {
-                case: self,
-                reply: Reply::Refused(number),
-            };
-        }
-        results::write_order(self, out);
-        Answer {
-            case: self,
-            reply: Reply::Taken,
-        }
+        let reply = results::write_order(&self, out);
+        Answer { case: self, reply }
     }
 
     // Writes the table that the order leaves, from the starting one: 32 values, by key.
@@ -166,27 +197,16 @@ impl Case {
         ensures number { number_of result.reply ≡ table_refused self (length out.old) }
         ensures list { out.new ≡ table_left self out.old }
     {
-        let number = results::table_refused(self, out.len());
-        if number != 0 {
-            return Answer {
-                case: self,
-                reply: Reply::Refused(number),
-            };
-        }
-        results::write_table(self, out);
-        Answer {
-            case: self,
-            reply: Reply::Taken,
-        }
+        let reply = results::write_table(&self, out);
+        Answer { case: self, reply }
     }
 
     // Writes the bills of the sixteen cabinets for the moves of the gates in the order's replay, from the starting table: what each pays for wear.
     pub fn bills(self, list: &mut [Bill]) -> Answer
         ensures { Bills self list.old result list.new }
     {
-        let m = results::bills_made(self, list.len());
-        billing::put(m.bills, m.count, list);
-        results::replied(self, m.number)
+        let reply = results::write_bills(&self, list);
+        Answer { case: self, reply }
     }
 
     // Says whether a proposed order is legal, and changes nothing.
@@ -195,7 +215,7 @@ impl Case {
         ensures number { judgement_number result.judgement ≡ check_refusal self proposed.now }
         ensures yes { judgement_yes result.judgement ≡ check_yes self proposed.now }
     {
-        let judgement = judging::judged(self, proposed);
+        let judgement = judging::judged(&self, proposed);
         Checking {
             case: self,
             judgement,

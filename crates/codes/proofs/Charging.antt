@@ -16,6 +16,8 @@ use lib.IntN.{ℤ, pos, negsuc}
 use lib.ListN.{length, get_or, replicate}
 use lib.Signed.{mag}
 use borrow.Author.Tests.{ne_eqb, lt-ltb, le-ltb}
+use Rattle.std.specs.Prelude.{Result, Ok, Err}
+use Rattle.refusals.specs.declared.Refusal.{Refusal}
 use Rattle.model.specs.History.{History, well_formed}
 use Rattle.model.specs.Lists.{implies}
 use Rattle.model.specs.Log.{transactions_in, load_number}
@@ -30,7 +32,7 @@ use Rattle.model.proofs.Words.{get_or_up_to}
 use Rattle.decision.specs.Answer.{is_some}
 use Rattle.answers.specs.declared.Stage.{Stage}
 use Rattle.answers.specs.declared.Verdict.{Verdict}
-use Rattle.answers.specs.declared.Verdict.TheVariants.{Order, NoOrder, Refused}
+use Rattle.answers.specs.declared.Verdict.TheVariants.{Order, NoOrder}
 use Rattle.answers.specs.Settings.{setting_refusal}
 use Rattle.answers.specs.Stages.{is_fresh, refused_by}
 use Rattle.wear.specs.Wear.{Move, moves, travel}
@@ -141,11 +143,11 @@ charges_with_0_alone w out = go (eqb (window_number w) 0) (decision_of w bills_e
     image : List ℕ
     image = filled (bill_in (bills_left k (replicate 16 no_bill))) 16 out
 
-    go : (b : Bool) (v : Verdict) → cond b (verdict_code v n) (window_number w) ≢ 0 → cond b (where_ordered v (cond (eqb n 0) image out) out) out ≡ out
+    go : (b : Bool) (v : Result Verdict Refusal) → cond b (verdict_code v n) (window_number w) ≢ 0 → cond b (where_ordered v (cond (eqb n 0) image out) out) out ≡ out
     go false v f = refl
-    go true Order f = ap (λ b. cond b image out) (ne_eqb n 0 f)
-    go true NoOrder f = refl
-    go true (Refused m) f = refl
+    go true (Ok Order) f = ap (λ b. cond b image out) (ne_eqb n 0 f)
+    go true (Ok NoOrder) f = refl
+    go true (Err r) f = refl
 
 -- ---- the twelve bytes of a bill
 

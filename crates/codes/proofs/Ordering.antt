@@ -15,6 +15,8 @@ use lib.Dec.{T, eqb, ltb, nltb→le}
 use lib.ListN.{length, drop, set, get_or, replicate}
 use lib.Seq.{drop-set-lt}
 use borrow.Author.Tests.{eq-eqb, ne_eqb}
+use Rattle.std.specs.Prelude.{Result, Ok, Err}
+use Rattle.refusals.specs.declared.Refusal.{Refusal}
 use Rattle.model.specs.History.{History, is_order, legal, replay}
 use Rattle.model.specs.Log.{transactions_in}
 use Rattle.model.specs.Times.{Times, times, no_times, timed_history}
@@ -28,7 +30,7 @@ use Rattle.model.proofs.Values.{replay_long}
 use Rattle.model.proofs.Windows.{number_of_log, taken_long}
 use Rattle.decision.specs.Answer.{is_some}
 use Rattle.answers.specs.declared.Verdict.{Verdict}
-use Rattle.answers.specs.declared.Verdict.TheVariants.{Order, NoOrder, Refused}
+use Rattle.answers.specs.declared.Verdict.TheVariants.{Order, NoOrder}
 use Rattle.answers.specs.Settings.{setting_refusal}
 use Rattle.answers.specs.Stages.{is_fresh}
 use Rattle.answers.proofs.Answering.{setting_either}
@@ -179,12 +181,12 @@ module _ (w : Window) (e pruning : ℕ) (order table : List ℕ) where
       n : ℕ
       n = room_code k (length order) (length table)
 
-      go : (b : Bool) (v : Verdict) → cond b (verdict_code v n) (window_number w) ≢ 0
+      go : (b : Bool) (v : Result Verdict Refusal) → cond b (verdict_code v n) (window_number w) ≢ 0
           → (cond b (where_ordered v (order_of k order (length table)) order) order ≡ order) × (cond b (where_ordered v (table_of k (length order) table) table) table ≡ table)
       go false v f = (refl, refl)
-      go true Order f = let x = kept k order table f in (sym x.0, sym x.1)
-      go true NoOrder f = (refl, refl)
-      go true (Refused m) f = (refl, refl)
+      go true (Ok Order) f = let x = kept k order table f in (sym x.0, sym x.1)
+      go true (Ok NoOrder) f = (refl, refl)
+      go true (Err r) f = (refl, refl)
 
 -- ---- two windows of one log and start, with one number and one history: whatever else is in their times
 

@@ -29,10 +29,11 @@ use Rattle.model.proofs.Times.{timed_log_size}
 use Rattle.model.proofs.Windows.{taken_log, window_numbers}
 use Rattle.decision.specs.Answer.{is_some}
 use Rattle.answers.specs.declared.Stage.TheVariants.{Ordered}
-use Rattle.answers.specs.Numbers.{number_of, judgement_of}
+use Rattle.refusals.specs.Numbers.{code, number_of, refusal_of, answer_of}
+use Rattle.answers.specs.Numbers.{judgement_of}
 use Rattle.answers.specs.Settings.{setting_refusal}
 use Rattle.answers.specs.Stages.{is_fresh, order_refusal}
-use Rattle.answers.proofs.Answering.{number_reply, setting_either}
+use Rattle.answers.proofs.Answering.{setting_either}
 use Rattle.checker.specs.declared.Case.{Case}
 use Rattle.checker.specs.declared.Decision.{Decision}
 use Rattle.checker.specs.Cases.{history_in, stage_of, loaded_case}
@@ -40,6 +41,7 @@ use Rattle.checker.specs.Calls.{check_refusal, check_yes, checking}
 use Rattle.checker.specs.Encodings.{encode_refusal, encode_answer, encode_list, encode_rows}
 use Rattle.checker.specs.Decisions.{decide_refusal, decided, decided_case, refused_decision, deciding}
 use Rattle.checker.proofs.Chain.{refused, load_holds, load_window, load_stage, decided_contents, ordered_number, some_stage}
+use Rattle.checker.proofs.Encodes.{encode_known}
 use Rattle.checker.proofs.Demands.{four_thousand_ninety_six_places_are_enough}
 use Rattle.checker.proofs.Whole.{decision_is}
 use Rattle.codes.specs.Codes.{judgement_code, verdict_code, where_ordered, where_loaded, room_code, decide_places, decision_of, said_code, window_code, polygraph_code, polygraph_after, sent_code, sent_after, encode_window}
@@ -120,11 +122,11 @@ module _ (w : Window) (taken : window_number w ≡ 0) (e pruning : ℕ) where
     decided_code setting = coded setting (λ k. room_code k order table) room room_of
 
     pub decided_refused : setting_refusal e pruning ≡ 12 → window_code w e pruning order table ≡ 12
-    unfolding deciding refused_decision
+    unfolding deciding refused_decision refusal_of
     decided_refused setting =
         window_code_lem
         ∙ ap (λ (d : Decision). said_code d order table) (refused (decide_refusal c e pruning decide_places) _ (refused_decision c (decide_refusal c e pruning decide_places)) (λ z. omega (arith, z, decide_number)))
-        ∙ decide_number ∙ setting
+        ∙ ap (λ n. code (refusal_of n)) (decide_number ∙ setting)
 
     never_25 : transactions_in w.bytes ≤ order → 64 ≤ table → window_code w e pruning order table ≢ 25
     never_25 long wide z =
@@ -168,7 +170,7 @@ module _ (w : Window) (taken : window_number w ≡ 0) (e pruning : ℕ) where
   encoded_code setting room =
       let a = encode_answer c e pruning 4096 32 in
       let runs = encode_number ∙ setting in
-      ap (λ b. cond b (cond (ltb room (130 + 10 * a.left)) 25 0) (number_of a.reply)) (eq-eqb (number_of a.reply) 0 (number_reply (encode_refusal c e pruning 4096 32) ∙ runs))
+      ap (λ b. cond b (cond (ltb room (130 + 10 * a.left)) 25 0) (number_of a.reply)) (eq-eqb (number_of a.reply) 0 (encode_known c e pruning 4096 32 ∙ runs))
       ∙ ap {B = ℕ} (λ b. cond (ltb room (130 + 10 * cond b (encoded_count (history_in c) e pruning) 0)) 25 0) (eq-eqb (encode_refusal c e pruning 4096 32) 0 runs)
       ∙ ap {B = ℕ} (λ (h : History). cond (ltb room (130 + 10 * encoded_count h e pruning)) 25 0) here
 
@@ -176,7 +178,7 @@ module _ (w : Window) (taken : window_number w ≡ 0) (e pruning : ℕ) where
   unfolding polygraph_code encode_answer
   encoded_refused setting room =
       let a = encode_answer c e pruning 4096 32 in
-      let is = number_reply (encode_refusal c e pruning 4096 32) ∙ encode_number ∙ setting in
+      let is = encode_known c e pruning 4096 32 ∙ encode_number ∙ setting in
       ap (λ b. cond b (cond (ltb room (130 + 10 * a.left)) 25 0) (number_of a.reply)) (ne_eqb (number_of a.reply) 0 (λ z. omega (arith, z, is))) ∙ is
 
   pub encoded_kept : setting_refusal e pruning ≡ 12 → (out : List ℕ) → polygraph_after c e pruning out ≡ out
@@ -236,7 +238,7 @@ module _ (w : Window) (taken : window_number w ≡ 0) (e pruning : ℕ) where
 
 pub checked_code : (w : Window) → window_number w ≡ 0 → (o : List ℕ)
     → judgement_code (checking (loaded_case w) o).judgement ≡ cond (is_order (transactions_in w.bytes) o) (cond (legal (window_history w) o) 0 255) 13
-unfolding checking check_refusal check_yes order_refusal judgement_of
+unfolding checking check_refusal check_yes order_refusal judgement_of answer_of refusal_of
 checked_code w taken o =
     let c = loaded_case w in
     ap (λ f. code f (is_order (size (history_in c)) o) (legal (history_in c) o)) (ap is_fresh (load_stage w taken))
@@ -257,7 +259,7 @@ checked_code w taken o =
 
 -- what is judged over a log's bytes, as a number
 pub judged_code : (n : ℕ) (h : History) (o : List ℕ) → judgement_code (judgement_of (order_refusal n o) (legal h o)) ≡ cond (is_order n o) (cond (legal h o) 0 255) 13
-unfolding order_refusal judgement_of
+unfolding order_refusal judgement_of answer_of refusal_of
 judged_code n h o = go (is_order n o) (legal h o)
   where
     go : (i l : Bool) → judgement_code (judgement_of (cond i 0 13) l) ≡ cond i (cond l 0 255) 13
@@ -266,7 +268,7 @@ judged_code n h o = go (is_order n o) (legal h o)
     go false l = refl
 
 pub checked_told : (c : Case) (o : List ℕ) → Told (judgement_code (checking c o).judgement)
-unfolding checking check_refusal check_yes order_refusal judgement_of
+unfolding checking check_refusal check_yes order_refusal judgement_of answer_of refusal_of
 checked_told c o = go (is_fresh (stage_of c)) (is_order (size (history_in c)) o) (legal (history_in c) o)
   where
     number : Bool → Bool → ℕ

@@ -7,29 +7,26 @@ use native.Mathlib.Nat.{not-suc-le-zero}
 use native.Mathlib.Omega.{arith}
 use mathlib.Core.Bool.{Bool, true, false, not, cond}
 use mathlib.Core.List.{List, map, ◌++◌, append-nil}
-use mathlib.Core.Option.{Option, none, some}
 use lib.Dec.{T, eqb, ltb, ltb→lt, nltb→le}
 use lib.ListN.{length, set, get_or, drop, replicate, length-set, get_or-eq_default}
 use lib.Seq.{get_or-set_same, get_or-set_other, ext_get_or}
 use borrow.Author.Tests.{eq-eqb, ne_eqb}
+use Rattle.std.specs.Prelude.{Result, Ok, Err}
+use Rattle.refusals.specs.declared.Refusal.{Refusal}
+use Rattle.refusals.proofs.Numbering.{code_some}
 use Rattle.model.specs.Times.{Times}
 use Rattle.model.specs.Window.{Window, window, window_number}
 use Rattle.model.specs.History.{replay}
 use Rattle.model.specs.Lent.{written_table}
-use Rattle.model.specs.Search.{first_legal}
 use Rattle.model.proofs.Windows.{number_of_log}
 use Rattle.model.proofs.Values.{replay_long}
 use Rattle.answers.specs.declared.Verdict.{Verdict}
-use Rattle.answers.specs.declared.Verdict.TheVariants.{Order, NoOrder, Refused}
-use Rattle.answers.specs.Numbers.{verdict_number}
+use Rattle.answers.specs.declared.Verdict.TheVariants.{Order, NoOrder}
 use Rattle.checker.specs.declared.Case.{Case}
 use Rattle.checker.specs.declared.Decision.{Decision}
 use Rattle.checker.specs.Cases.{history_in, order_in, loaded_case, with_starting}
-use Rattle.checker.specs.Decisions.{verdict_for, decided, deciding}
 use Rattle.checker.specs.Results.{order_refused, order_left, table_refused, table_left}
 use Rattle.checker.proofs.Starting.{same_answers, decided_alike, decided_keeps}
-use Rattle.checker.proofs.Verdicts.{deciding_number}
-use Rattle.checker.proofs.Whole.{decision_is}
 use Rattle.codes.specs.Codes.{verdict_code, where_ordered, room_code, order_of, table_of, decide_places, decision_of, said_code, said_order, window_code, window_order, window_table}
 use Rattle.model.specs.Lists.{up_to}
 use Rattle.model.specs.Log.{pair_at}
@@ -163,23 +160,6 @@ written_read values out long room =
 
 -- ---- what is written where 0 is given
 
-abbrev is_refused : Verdict → Bool
-is_refused Order = false
-is_refused NoOrder = false
-is_refused (Refused m) = true
-
-not_refused_for : (x : Option (List ℕ)) → is_refused (verdict_for x) ≡ false
-not_refused_for none = refl
-not_refused_for (some o) = refl
-
--- a verdict that refuses has a number other than 0
-no_refusal_0 : (c : Case) (e pruning places m : ℕ) → (deciding c e pruning places).verdict ≡ Refused m → m ≡ 0 → ⊥
-unfolding decided
-no_refusal_0 c e pruning places m is z =
-    let runs = sym (deciding_number c e pruning places) ∙ ap verdict_number is ∙ z in
-    let said = ap (λ (d : Decision). is_refused d.verdict) (decision_is c e pruning places runs) ∙ not_refused_for (first_legal (history_in c)) in
-    subst T (sym (ap is_refused is) ∙ said) tt
-
 room_of : (c : Case) (order table : ℕ) → room_code c order table ≡ 0 → 64 ≤ table
 unfolding room_code
 room_of c order table z = go (ltb table 64) refl z
@@ -200,14 +180,14 @@ module _ (w : Window) (e pruning : ℕ) (order table : List ℕ) where
 
   pub table_written : window_code w e pruning (length order) (length table) ≡ 0 → (window_table w e pruning (length order) table ≡ image) × (64 ≤ length table)
   unfolding window_code window_table table_of
-  table_written z = go (eqb (window_number w) 0) refl d.verdict refl z
+  table_written z = go (eqb (window_number w) 0) refl d.verdict z
     where
-      go : (b : Bool) → eqb (window_number w) 0 ≡ b → (v : Verdict) → d.verdict ≡ v → cond b (verdict_code v code) (window_number w) ≡ 0
+      go : (b : Bool) → eqb (window_number w) 0 ≡ b → (v : Result Verdict Refusal) → cond b (verdict_code v code) (window_number w) ≡ 0
           → (cond b (where_ordered v (cond (eqb code 0) image table) table) table ≡ image) × (64 ≤ length table)
-      go false is v vs z = absurd (subst T (sym (eq-eqb (window_number w) 0 z) ∙ is) tt)
-      go true is Order vs z = (ap (λ b. cond b image table) (eq-eqb code 0 z), room_of d.case (length order) (length table) z)
-      go true is NoOrder vs z = absurd (omega (arith, z))
-      go true is (Refused m) vs z = absurd (no_refusal_0 (loaded_case w) e pruning decide_places m vs z)
+      go false is v z = absurd (subst T (sym (eq-eqb (window_number w) 0 z) ∙ is) tt)
+      go true is (Ok Order) z = (ap (λ b. cond b image table) (eq-eqb code 0 z), room_of d.case (length order) (length table) z)
+      go true is (Ok NoOrder) z = absurd (omega (arith, z))
+      go true is (Err r) z = absurd (code_some r z)
 
 table_32 : (c : Case) → length c.starting ≡ 32 → length (table_left c (replicate 32 0)) ≡ 32
 unfolding table_left written_table

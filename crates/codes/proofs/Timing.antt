@@ -1,10 +1,10 @@
 -- Laws of times as bytes: what stands where they have the lengths that are asked of them, and where they have not.
 --     where_matched, where_mismatched      by their lengths, beside a log that is taken.        where_untimed   without any
---     lengths_read         of the number for which they are not read: where it is 0 they are few, and as many as are asked for
+--     lengths_read, lengths_same   of the number for which they are not read: where it is 0 they are few, and as many as are asked for; both have as many
 --     unread_code, unread_list, where_read     what stands where it is not 0, and where it is
 --     thirty_seven         where exactly 37 is given
 -- Assumes nothing.
-use mathlib.Core.Path.{◌≡◌, refl, sym, ap, ap₂, ◌∙◌}
+use mathlib.Core.Path.{◌≡◌, refl, sym, ap, ap₂, subst, ◌∙◌}
 use mathlib.Core.Logic.{◌⊎◌, inl, inr, ⊎_elim, ◌↔◌, ◌≢◌}
 use Prim.Native.Nat.{ℕ, ◌*◌, ◌/◌, ◌≤◌}
 use native.Mathlib.Omega.{arith}
@@ -136,6 +136,11 @@ module _ (log begin end : List ℕ) (n : ℕ) (is : n ≡ lengths_number log beg
       (true_eq (fit log begin end) (or_r none four x.1.1), (omega (arith, l.0, few), omega (arith, l.1, few))))
       (λ x. absurd (omega (arith, x.1.0, z)))))
       cases
+
+  -- then they are as long as each other
+  pub lengths_same : n ≡ 0 → length begin ≡ length end
+  lengths_same z =
+      ⊎_elim (λ l. l.0 ∙ sym l.1) (λ l. l.0 ∙ sym l.1) (four_out (transactions_in log) begin end (subst T (sym (lengths_read z).0) tt))
 
   pub where_read : n ≡ 0 → {X : Type 0} (x y r : X) → r ≡ x → r ≡ where_timed log begin end x y
   where_read z x y r e = e ∙ sym (where_matched log begin end x y (lengths_read z).0)

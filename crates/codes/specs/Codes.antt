@@ -1,6 +1,8 @@
 -- What each function for C gives and leaves, of the case that a window is loaded into: 0, 255 or the refusal's number, and what is written where it is 0.
 -- The numbers of Load come first, then those of the call. Assumes nothing.
-use Rattle.std.specs.Prelude.{ℕ, ◌+◌, ◌*◌, Bool, true, cond, ◌&&◌, ◌||◌, List, eqb, ltb, length, replicate}
+use Rattle.std.specs.Prelude.{ℕ, ◌+◌, ◌*◌, Bool, cond, ◌&&◌, ◌||◌, List, eqb, ltb, length, replicate, Some, Result, Ok, Err}
+use Rattle.refusals.specs.declared.Refusal.{Refusal}
+use Rattle.refusals.specs.Numbers.{code, number_of}
 use Rattle.model.specs.Lists.{implies}
 use Rattle.model.specs.History.{History}
 use Rattle.model.specs.Polygraph.{polygraph}
@@ -12,37 +14,36 @@ use Rattle.checker.specs.declared.Case.{Case}
 use Rattle.checker.specs.declared.Decision.{Decision}
 use Rattle.checker.specs.declared.Encoding.{Encoding}
 use Rattle.answers.specs.declared.Judgement.{Judgement}
-use Rattle.answers.specs.declared.Judgement.TheVariants.{Legal, Illegal, Refused}
+use Rattle.answers.specs.declared.Judgement.TheVariants.{Legal, Illegal}
 use Rattle.answers.specs.declared.Verdict.{Verdict}
-use Rattle.answers.specs.declared.Verdict.TheVariants.{Order, NoOrder, Refused as RefusedVerdict}
+use Rattle.answers.specs.declared.Verdict.TheVariants.{Order, NoOrder}
 use Rattle.finding.specs.declared.Outcome.{Outcome}
-use Rattle.answers.specs.Numbers.{number_of}
 use Rattle.checker.specs.Cases.{loaded_case}
 use Rattle.checker.specs.Calls.{checking}
 use Rattle.checker.specs.Decisions.{deciding}
-use Rattle.checker.specs.Preparing.{storing, found_by}
+use Rattle.checker.specs.Preparing.{storing, answering}
 use Rattle.checker.specs.Encodings.{encode_answer, encode_list, encode_rows}
 use Rattle.checker.specs.Results.{order_refused, order_left, table_left, bills_refused, bills_left}
 use Rattle.wear.specs.Bills.{no_bill}
 use Rattle.codes.specs.Images.{filled, value_in, values_in, seconds_in, polygraph_in, bill_in}
 
 -- 0 legal, 255 not legal, else the refusal's number
-abbrev pub judgement_code : Judgement → ℕ
-judgement_code Legal = 0
-judgement_code Illegal = 255
-judgement_code (Refused n) = n
+abbrev pub judgement_code : Result Judgement Refusal → ℕ
+judgement_code (Ok Legal) = 0
+judgement_code (Ok Illegal) = 255
+judgement_code (Err r) = code r
 
 -- 255 for 'no order', the refusal's number, or, where there is an order, what is given
-abbrev pub verdict_code : Verdict → ℕ → ℕ
-verdict_code Order n = n
-verdict_code NoOrder n = 255
-verdict_code (RefusedVerdict m) n = m
+abbrev pub verdict_code : Result Verdict Refusal → ℕ → ℕ
+verdict_code (Ok Order) n = n
+verdict_code (Ok NoOrder) n = 255
+verdict_code (Err r) n = code r
 
 -- what stands where there is an order, and else
-abbrev pub where_ordered : {X : Type 0} → Verdict → X → X → X
-where_ordered Order x y = x
-where_ordered NoOrder x y = y
-where_ordered (RefusedVerdict m) x y = y
+abbrev pub where_ordered : {X : Type 0} → Result Verdict Refusal → X → X → X
+where_ordered (Ok Order) x y = x
+where_ordered (Ok NoOrder) x y = y
+where_ordered (Err r) x y = y
 
 -- what stands where Load takes the window, and else
 abbrev pub where_loaded : {X : Type 0} → Window → X → X → X
@@ -83,10 +84,11 @@ said_table d order table = where_ordered d.verdict (table_of d.case order table)
 
 -- the case that stands for a window with the numbers of an order, and the decision that stands for what is found over its log, with any count of constraints left
 abbrev pub ordered_case : Window → List ℕ → Case
-ordered_case w numbers = storing (loaded_case w) 0 true numbers
+ordered_case w numbers = storing (loaded_case w) (Some numbers)
 
-abbrev pub found_decision : Window → Outcome → ℕ → Decision
-found_decision w o left = found_by (loaded_case w) o.number o.found o.order left
+abbrev pub found_decision : Window → Result Outcome Refusal → ℕ → Decision
+found_decision w (Err r) left = record { case = loaded_case w; verdict = Err r; order = replicate 32 0; left = 0 }
+found_decision w (Ok o) left = answering (storing (loaded_case w) o.order) o.order left
 
 unfoldable pub window_code : Window → ℕ → ℕ → ℕ → ℕ → ℕ
 window_code w e pruning order table = where_loaded w (said_code (decision_of w e pruning) order table) (window_number w)

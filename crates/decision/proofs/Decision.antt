@@ -1,18 +1,16 @@
 -- The search is asked about the history's polygraph, and its answer is the first legal order. Assumes nothing.
 use Prim.Native.Nat.{ℕ, ◌*◌, ◌≤◌}
 use native.Mathlib.Omega.{arith}
-use mathlib.Core.Path.{◌≡◌, refl, sym, ap, ap₂, subst, ◌∙◌}
-use mathlib.Core.Bool.{Bool, true, false, cond}
-use mathlib.Core.Option.{none, some}
+use mathlib.Core.Path.{◌≡◌, sym, ap, subst, ◌∙◌}
+use mathlib.Core.Bool.{Bool, true, false}
 use mathlib.Core.List.{List}
 use lib.Dec.{T}
-use lib.ListN.{length, take, replicate}
+use lib.ListN.{length}
+use Rattle.std.specs.Prelude.{Option, None, Some}
 use Rattle.model.specs.History.{History, size, legal}
 use Rattle.model.specs.Log.{transactions_in, load_number, history_of}
 use Rattle.model.specs.Polygraph.{Polygraph, reach, polygraph}
-use Rattle.model.specs.Search.{first_legal}
 use Rattle.model.specs.Times.{Times, timed_history}
-use Rattle.model.specs.Lent.{order_numbers}
 use Rattle.model.specs.RowWords.{Tidy, cyclic}
 use Rattle.model.proofs.Basics.{clash}
 use Rattle.model.proofs.First.{first_missing}
@@ -29,12 +27,11 @@ use Rattle.listing.proofs.Lists.{items_length}
 use Rattle.search.specs.Constraints.{list_of}
 use Rattle.search.specs.Orders.{Asked, Answered}
 use Rattle.search.specs.Steps.{PartialOrder}
-use Rattle.search.specs.declared.order.Found.{Found}
-use Rattle.search.proofs.Answer.{asked_of, answer_first}
+use Rattle.search.proofs.Answer.{asked_of, answer_none, answer_some}
 use Rattle.search.proofs.Steps.{is_true, is_false}
 use Rattle.search.proofs.Firsts.{closed_asked, closed_answered}
 use Rattle.decision.specs.Words.{WordsOf}
-use Rattle.decision.specs.Answer.{SettledIn, is_some, first_answer}
+use Rattle.decision.specs.Answer.{SettledIn, answer_of, first_answer}
 
 -- a log that Load takes, with any times
 fit : (b : List ℕ) → load_number b ≡ 0 → (at : Times) → Loadable (timed_history b at)
@@ -74,9 +71,9 @@ module _ (b : List ℕ) (ok : load_number b ≡ 0) (at : Times) (ts ks : List �
       let respects = ((legal_iff h₀ (fit b ok at) settled.encoding settled.pruning settled.low o).0 k).1.0 in
       clash (cyclic known) (is_true r (cyclic known) (is known settled.rows_are) q) (cyclic_in known (λ u x. let z = way_forward o known tidy respects u u x in omega arith))
 
-  pub cyclic_answer : r ≡ true → record { found = false; order = replicate 32 0 } ≡ first_answer h₀
-  unfolding first_answer is_some order_numbers
-  cyclic_answer q = sym (ap {B = Found} (λ x. record { found = is_some x; order = order_numbers x }) (first_missing h₀ (none_legal q)))
+  pub cyclic_answer : r ≡ true → None ≡ first_answer h₀
+  unfolding first_answer answer_of
+  cyclic_answer q = sym (ap answer_of (first_missing h₀ (none_legal q)))
 
 -- ---- the search's answer
 
@@ -100,18 +97,15 @@ module _ (b : List ℕ) (ok : load_number b ≡ 0) (at : Times) (t : ℕ) (size_
   pub asked : Asked t w n closed
   asked = subst (λ (x : ℕ). Asked x w n closed) (sym t_is) (closed_asked (size h) w n p.known asked_open closed settled.rows_are)
 
-  answer_is : (found : Bool) (order : List ℕ) → Answered t w n closed found order → (first_legal h ≡ cond found (some (take (size h) order)) none) × (order ≡ order_numbers (first_legal h))
-  answer_is found order a =
-      answer_first h (fit b ok at) settled.encoding settled.pruning settled.low w n same found order
-      (closed_answered (size h) w n p.known asked_open closed settled.rows_are found order (subst (λ (x : ℕ). Answered x w n closed found order) t_is a))
+  answer_is : (r : Option (List ℕ)) → Answered t w n closed r → Answered (size h) w n p.known r
+  answer_is r a = closed_answered (size h) w n p.known asked_open closed settled.rows_are r (subst (λ (x : ℕ). Answered x w n closed r) t_is a)
 
-  is_some_lem : (found : Bool) (o : List ℕ) → found ≡ is_some (cond found (some o) none)
-  unfolding is_some
-  is_some_lem true o = refl
-  is_some_lem false o = refl
+  answer_at : (r : Option (List ℕ)) → Answered (size h) w n p.known r → r ≡ first_answer h
+  unfolding first_answer answer_of
+  answer_at None a = sym (ap answer_of (answer_none h (fit b ok at) settled.encoding settled.pruning settled.low w n same a))
+  answer_at (Some out) a =
+      let x = answer_some h (fit b ok at) settled.encoding settled.pruning settled.low w n same out a in
+      ap (λ (o : List ℕ). Some o) x.1 ∙ sym (ap answer_of x.0)
 
-  pub answered : (r : Found) → Answered t w n closed r.found r.order → r ≡ first_answer h
-  unfolding first_answer
-  answered r a =
-      let x = answer_is r.found r.order a in
-      ap₂ {C = Found} (λ (f : Bool) (o : List ℕ). record { found = f; order = o }) (is_some_lem r.found (take (size h) r.order) ∙ ap is_some (sym x.0)) x.1
+  pub answered : (r : Option (List ℕ)) → Answered t w n closed r → r ≡ first_answer h
+  answered r a = answer_at r (answer_is r a)

@@ -4,14 +4,13 @@
 #![tactic(auto)]
 
 ghost use Rattle.std.specs.Prelude.{◌≡◌, ◌≤◌, ◌*◌, length};
-ghost use Rattle.model.specs.Log.{load_number};
 ghost use Rattle.listing.specs.Candidates.{items_by};
 ghost use Rattle.search.specs.Steps.{PartialOrder};
 ghost use Rattle.decision.specs.Words.{WordsOf};
 ghost use Rattle.decision.specs.Answer.{Settled, First};
 
 use listing::{PLACES, WORDS};
-use search::order::Found;
+use logs::Log;
 
 // How many constraints are few, and some; and the words that few, some and all take, four each.
 const FEW: u16 = 64;
@@ -29,87 +28,48 @@ fn words<'a, 'b>(tables: &'a [u32; WORDS], chosen: &'a [u16; PLACES], n: u16, ou
     requires { (n ≤ 4096) × (4 * n ≤ length out.old) }
     ensures { WordsOf (items_by tables.now chosen.now n) n (length out.old) out.new }
 {
-    let mut i: usize = 0;
-    while i < n as usize {
+    for i in 0..n as usize {
         search::put_constraint(out, i, listing::nth(tables, chosen, i));
-        i += 1;
     }
 }
 
-// The first legal order by at most 64 constraints: a room for 4,096 is more to clear than the search takes where few are left.
-fn first_of_few<'a, 'b>(
-    log: &'a [u8],
+// The first legal order by constraints that have room in N words: a room for 4,096 is more to clear than the search takes where few are left.
+fn first_in<'a, 'b, const N: usize>(
+    log: Log<'a>,
     tables: &'b [u32; WORDS],
     chosen: &'b [u16; PLACES],
     n: u16,
     closed: [u32; 32],
-) -> Found
-    requires { (load_number log.now ≡ 0) × (n ≤ 64) × Settled log.now tables.now chosen.now n closed × PartialOrder closed }
-    ensures { First log.now tables.now chosen.now n closed result }
+) -> Option<[u8; 32]>
+    requires { (4 * n ≤ N) × (N ≤ 16384) × Settled log.bytes.now tables.now chosen.now n closed × PartialOrder closed }
+    ensures { First log.entry.bytes.now tables.now chosen.now n closed result }
 {
-    let t = logs::transactions(log);
-    let mut out = [0u32; FEW_WORDS];
+    let t = log.transactions();
+    let mut out = [0u32; N];
     words(tables, chosen, n, &mut out);
     search::order::first_closed(closed, &out, n, t)
 }
 
-// The same by at most 512.
-fn first_of_some<'a, 'b>(
-    log: &'a [u8],
-    tables: &'b [u32; WORDS],
-    chosen: &'b [u16; PLACES],
-    n: u16,
-    closed: [u32; 32],
-) -> Found
-    requires { (load_number log.now ≡ 0) × (n ≤ 512) × Settled log.now tables.now chosen.now n closed × PartialOrder closed }
-    ensures { First log.now tables.now chosen.now n closed result }
-{
-    let t = logs::transactions(log);
-    let mut out = [0u32; SOME_WORDS];
-    words(tables, chosen, n, &mut out);
-    search::order::first_closed(closed, &out, n, t)
-}
-
-// The same by any number.
-fn first_of_many<'a, 'b>(
-    log: &'a [u8],
-    tables: &'b [u32; WORDS],
-    chosen: &'b [u16; PLACES],
-    n: u16,
-    closed: [u32; 32],
-) -> Found
-    requires { (load_number log.now ≡ 0) × Settled log.now tables.now chosen.now n closed × PartialOrder closed }
-    ensures { First log.now tables.now chosen.now n closed result }
-{
-    let t = logs::transactions(log);
-    let mut out = [0u32; ALL_WORDS];
-    words(tables, chosen, n, &mut out);
-    search::order::first_closed(closed, &out, n, t)
-}
-
-// The first legal order of a log whose constraints the first n numbers are, beside the closed words of its known edges in the same setting; or that
-// there is none: 32 numbers, 0 behind the order. Where the known edges have a cycle there is none, and nothing is put into words.
+// The first legal order of a log whose constraints the first n numbers are, beside the closed words of its known edges in the same setting; 32 numbers, 0 behind
+// the order; or that there is none. Where the known edges have a cycle there is none, and nothing is put into words.
 pub fn first_settled<'a, 'b>(
-    log: &'a [u8],
+    log: Log<'a>,
     tables: &'b [u32; WORDS],
     chosen: &'b [u16; PLACES],
     n: u16,
     closed: [u32; 32],
-) -> Found
-    requires { (load_number log.now ≡ 0) × Settled log.now tables.now chosen.now n closed }
-    ensures { First log.now tables.now chosen.now n closed result }
+) -> Option<[u8; 32]>
+    requires { Settled log.bytes.now tables.now chosen.now n closed }
+    ensures { First log.entry.bytes.now tables.now chosen.now n closed result }
 {
     if graph::cyclic(closed) {
-        return Found {
-            found: false,
-            order: [0; 32],
-        };
+        return None;
     }
     if n <= FEW {
-        return first_of_few(log, tables, chosen, n, closed);
+        return first_in::<FEW_WORDS>(log, tables, chosen, n, closed);
     }
     if n <= SOME {
-        return first_of_some(log, tables, chosen, n, closed);
+        return first_in::<SOME_WORDS>(log, tables, chosen, n, closed);
     }
-    first_of_many(log, tables, chosen, n, closed)
+    first_in::<ALL_WORDS>(log, tables, chosen, n, closed)
 }

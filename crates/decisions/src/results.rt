@@ -1,17 +1,30 @@
 // Order and Table against what is expected of them: with lists that are exactly long enough, longer and too short, and in each state.
-use checker::{Answer, Case, Clock, Reply};
-use samples::same_case;
+use checker::{Answer, Case, Clock, Refusal, Verdict};
 
-// The table that a history of `size` transactions starts from, and its times; whether it has a legal order; the first one, with zeros behind it or, where there
-// is none, 32 zeros; and the table that its replay leaves.
+// The table that a history of `size` transactions starts from, and its times; its first legal order, with zeros behind it, if it has one; and the table that a
+// replay of that order leaves.
 #[derive(Clone, Copy)]
 pub struct Expected {
     pub starting: [u16; 32],
     pub clock: Clock,
-    pub found: bool,
     pub size: usize,
-    pub order: [u8; 32],
+    pub order: Option<[u8; 32]>,
     pub table: [u16; 32],
+}
+
+impl Expected {
+    // The order as Decide gives it: 32 zeros where there is none.
+    pub fn numbers(&self) -> [u8; 32] {
+        self.order.unwrap_or([0; 32])
+    }
+
+    // What Decide says.
+    pub fn verdict(&self) -> Verdict {
+        match self.order {
+            Some(_) => Verdict::Order,
+            None => Verdict::NoOrder,
+        }
+    }
 }
 
 // What stood in the lent places.
@@ -19,112 +32,59 @@ const BYTE: u8 = 201;
 
 const VALUE: u16 = 40001;
 
-// For a list that cannot be lent: a number that no call gives.
-fn not_called(c: Case) -> Answer {
-    Answer {
-        case: c,
-        reply: Reply::Refused(255),
+// Whether the first places hold the first n of a list, and the others what they held.
+fn holds<T: Copy + PartialEq>(out: &[T; 36], list: &[T; 32], n: usize, held: T) -> bool {
+    match out.strip_prefix(&list[..n.min(32)]) {
+        Some(behind) => behind.iter().all(|x| *x == held),
+        None => false,
     }
 }
 
-// Order with the first n places.
-fn order_with(c: Case, out: &mut [u8], n: usize) -> Answer {
-    if n > out.len() {
-        return not_called(c);
-    }
-    c.order(&mut out[0..n])
-}
-
-// Table with the first n places.
-fn table_with(c: Case, out: &mut [u16], n: usize) -> Answer {
-    if n > out.len() {
-        return not_called(c);
-    }
-    c.table(&mut out[0..n])
-}
-
-// Whether the call gave the number, and the case as it was.
-fn answered(a: Answer, c: Case, expected: u64) -> bool {
-    let r = a.reply;
-    let after = a.case;
-    r.number() as u64 == expected && same_case(after, c)
-}
-
-// Whether the first `size` places hold the order, and the others what they held.
-fn holds_order(out: [u8; 36], order: [u8; 32], size: usize) -> bool {
-    for i in 0..36usize {
-        if i < 32 && i < size {
-            if out[i] != order[i] {
-                return false;
-            }
-        } else if out[i] != BYTE {
-            return false;
-        }
-    }
-    true
-}
-
-// Whether the first `size` places hold the table, and the others what they held.
-fn holds_table(out: [u16; 36], table: [u16; 32], size: usize) -> bool {
-    for i in 0..36usize {
-        if i < 32 && i < size {
-            if out[i] != table[i] {
-                return false;
-            }
-        } else if out[i] != VALUE {
-            return false;
-        }
-    }
-    true
-}
-
-// Whether Order with n places gives the number, and writes the order exactly where that is 0.
-fn order_agrees(c: Case, n: usize, x: Expected, expected: u64) -> bool {
+// Whether Order with n places, at most 36, gives this reply and the case as it was, and writes the order exactly where that is no refusal.
+fn order_agrees(c: Case, n: usize, x: &Expected, reply: Result<(), Refusal>) -> bool {
     let mut out = [BYTE; 36];
-    let a = order_with(c, &mut out, n);
-    let order = x.order;
-    let written = if expected == 0 { x.size } else { 0 };
-    answered(a, c, expected) && holds_order(out, order, written)
+    let a = c.order(&mut out[..n.min(36)]);
+    let answer = Answer { case: c, reply };
+    let written = if reply.is_ok() { x.size } else { 0 };
+    a == answer && holds(&out, &x.numbers(), written, BYTE)
 }
 
 // The same of Table.
-fn table_agrees(c: Case, n: usize, x: Expected, expected: u64) -> bool {
+fn table_agrees(c: Case, n: usize, x: &Expected, reply: Result<(), Refusal>) -> bool {
     let mut out = [VALUE; 36];
-    let a = table_with(c, &mut out, n);
-    let table = x.table;
-    let written = if expected == 0 { 32 } else { 0 };
-    answered(a, c, expected) && holds_table(out, table, written)
+    let a = c.table(&mut out[..n.min(36)]);
+    let answer = Answer { case: c, reply };
+    let written = if reply.is_ok() { 32 } else { 0 };
+    a == answer && holds(&out, &x.table, written, VALUE)
 }
 
-// Whether both refuse with the number, also where the lists are too short.
-pub fn refuse(c: Case, x: Expected, expected: u64) -> bool {
-    order_agrees(c, 36, x, expected)
-        && order_agrees(c, 0, x, expected)
-        && table_agrees(c, 36, x, expected)
-        && table_agrees(c, 0, x, expected)
+// Whether both give this refusal, also where the lists are too short.
+pub fn refuse(c: Case, x: &Expected, refusal: Refusal) -> bool {
+    order_agrees(c, 36, x, Err(refusal))
+        && order_agrees(c, 0, x, Err(refusal))
+        && table_agrees(c, 36, x, Err(refusal))
+        && table_agrees(c, 0, x, Err(refusal))
 }
 
 // Whether both give what is expected of a decided case.
-pub fn agree(c: Case, x: Expected) -> bool {
-    if !x.found {
-        return refuse(c, x, 24);
+pub fn agree(c: Case, x: &Expected) -> bool {
+    if x.order.is_none() {
+        return refuse(c, x, Refusal::DecidedWithoutOrder);
     }
-    order_agrees(c, x.size, x, 0)
-        && order_agrees(c, x.size % 33 + 3, x, 0)
-        && table_agrees(c, 32, x, 0)
-        && table_agrees(c, 36, x, 0)
+    order_agrees(c, x.size, x, Ok(()))
+        && order_agrees(c, x.size.saturating_add(3), x, Ok(()))
+        && table_agrees(c, 32, x, Ok(()))
+        && table_agrees(c, 36, x, Ok(()))
 }
 
 // Whether both refuse of a decided case: after 'no order', or with lists that are too short by one.
-pub fn refuse_decided(c: Case, x: Expected) -> bool {
-    if !x.found {
-        return refuse(c, x, 24);
+pub fn refuse_decided(c: Case, x: &Expected) -> bool {
+    if x.order.is_none() {
+        return refuse(c, x, Refusal::DecidedWithoutOrder);
     }
-    if !table_agrees(c, 31, x, 25) {
-        return false;
-    }
-    if x.size == 0 {
-        return true;
-    }
-    order_agrees(c, x.size - 1, x, 25)
+    let short = match x.size.checked_sub(1) {
+        Some(n) => order_agrees(c, n, x, Err(Refusal::TooFewPlaces)),
+        None => true,
+    };
+    short && table_agrees(c, 31, x, Err(Refusal::TooFewPlaces))
 }

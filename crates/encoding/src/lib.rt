@@ -4,17 +4,21 @@
 ghost use Rattle.std.specs.Prelude.{◌≡◌, ℕ, ◌≤◌, ◌-◌, ◌++◌, length, replicate, drop};
 ghost use Rattle.model.specs.History.{History};
 ghost use Rattle.model.specs.Log.{history_of};
-ghost use Rattle.model.specs.Times.{times, timed_number, timed_history};
+ghost use Rattle.model.specs.Times.{times, timed_history};
 ghost use Rattle.model.specs.Lent.{no_constraint};
+ghost use Rattle.setting.specs.Encodings.{encoding_number, pruning_number};
 ghost use Rattle.listing.specs.Candidates.{items_by};
 ghost use Rattle.listing.specs.Choosing.{Space};
 ghost use Rattle.listing.specs.Listing.{Chosen};
 ghost use Rattle.encoding.specs.Writing.{TablesOf, Planned, Writable, Encoded};
 
 use listing::{PLACES, WORDS};
+use logs::Log;
+use logs::times::TimedLog;
 use model::Constraint;
 use polygraph::MARKS;
 use pruning::Pruned;
+use setting::Encoding;
 
 // What is known of a polygraph before anything is written, beside the tables and the numbers of its constraints: the known edges before pruning, and
 // the count of constraints before pruning.
@@ -26,46 +30,44 @@ pub struct Known {
 
 // The tables and the numbers of the constraints in an encoding; how many constraints.
 fn choose(
-    log: &[u8],
+    log: Log<'_>,
     n: usize,
-    encoding: u8,
+    encoding: Encoding,
     writers: &[u32; 32],
     marks: &[u32; MARKS],
     tables: &mut [u32; WORDS],
     chosen: &mut [u16; PLACES],
 ) -> u16
-    requires { TablesOf log.now n writers.now marks.now × (encoding ≤ 2) × Space tables.old chosen.old }
-    ensures { Chosen (history_of log.now) encoding tables.new chosen.new result }
+    requires { TablesOf log.bytes.now n writers.now marks.now × Space tables.old chosen.old }
+    ensures { Chosen (history_of log.entry.bytes.now) (encoding_number encoding) tables.new chosen.new result }
 {
-    if encoding == 0 {
-        listing::plain::table(log, writers, tables, chosen)
-    } else {
-        listing::runs::table(encoding, n as u32, writers, marks, tables, chosen)
+    match encoding {
+        Encoding::Plain => listing::plain::table(log, writers, tables, chosen),
+        _ => listing::runs::table(encoding.number(), n as u32, writers, marks, tables, chosen),
     }
 }
 
 // Plans the polygraph of a log and its times in an encoding: into the tables and the numbers, and what is known beside them.
 pub fn prepare(
-    log: &[u8],
-    begin: &[u32],
-    end: &[u32],
-    drift: u32,
-    encoding: u8,
+    window: TimedLog<'_>,
+    encoding: Encoding,
     tables: &mut [u32; WORDS],
     chosen: &mut [u16; PLACES],
 ) -> Known
-    requires { (timed_number log.now (times begin.now end.now drift) ≡ 0) × (encoding ≤ 2) × Space tables.old chosen.old }
-    ensures { Planned (timed_history log.now (times begin.now end.now drift)) encoding tables.new chosen.new result.rows result.count }
+    requires { Space tables.old chosen.old }
+    ensures { Planned (timed_history window.entry.log.bytes.now (times window.entry.clock.begin.now window.entry.clock.end.now window.entry.clock.drift)) (encoding_number encoding) tables.new chosen.new result.rows result.count }
 {
-    let n = logs::transactions(log);
+    let log = window.log;
     let mut writers = [0u32; 32];
     let mut reads = [0u32; 256];
-    let read = polygraph::decode(log, &mut writers, &mut reads);
+    let count = polygraph::decode(log, &mut writers, &mut reads);
+    let reads = &reads[..count];
     let mut marks = [0u32; MARKS];
     let mut slots = [0u16; 256];
-    polygraph::read_marks(&reads, read, &writers, &mut slots, &mut marks);
-    let mut rows = polygraph::known(log, n, encoding, &reads, read, &slots, &writers, &marks);
-    polygraph::clock::add(begin, end, drift, &mut rows);
+    polygraph::read_marks(reads, &writers, &mut slots, &mut marks);
+    let mut rows = polygraph::known(log, encoding, reads, &slots, &writers, &marks);
+    polygraph::clock::add(window.clock, &mut rows);
+    let n = log.transactions();
     let count = choose(log, n, encoding, &writers, &marks, tables, chosen);
     Known { rows, count }
 }
@@ -77,14 +79,14 @@ pub fn write<'a, 'b>(
     chosen: &'a [u16; PLACES],
     rows: [u32; 32],
     n: u16,
-    pruning: u8,
+    pruned: bool,
     list: &'b mut [Constraint],
 ) -> Pruned
     requires { Writable n (length list.old) }
-    ensures { (h : History) (e : ℕ) → Planned h e tables.now chosen.now rows n → Encoded h e pruning list.old result list.new }
+    ensures { (h : History) (e : ℕ) → Planned h e tables.now chosen.now rows n → Encoded h e (pruning_number pruned) list.old result list.new }
 {
     listing::list(tables, chosen, n, list);
-    let r = pruning::prune(rows, list, n, pruning);
+    let r = pruning::prune(rows, list, n, pruned);
     pruning::clear(list, r.left, n);
     r
 }

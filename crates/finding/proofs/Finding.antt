@@ -7,6 +7,10 @@ use mathlib.Core.Bool.{Bool, true, false, cond}
 use mathlib.Core.List.{List}
 use lib.Dec.{T, eqb, eqb→eq}
 use lib.ListN.{length}
+use Rattle.std.specs.Prelude.{Option, Ok, Err}
+use Rattle.refusals.specs.declared.Refusal.{Refusal}
+use Rattle.refusals.specs.Numbers.{code}
+use Rattle.refusals.proofs.Numbering.{code_some}
 use borrow.Author.Tests.{eq-eqb, ne_eqb}
 use Rattle.model.specs.declared.Constraint.{Constraint}
 use Rattle.model.specs.History.{History, size}
@@ -24,13 +28,11 @@ use Rattle.listing.proofs.Lists.{items_length}
 use Rattle.pruning.specs.Passes.{pruned, settled}
 use Rattle.pruning.specs.Numbers.{PrunedTo}
 use Rattle.encoding.specs.Writing.{Planned}
-use Rattle.search.specs.declared.order.Found.{Found}
 use Rattle.decision.specs.Answer.{SettledIn, first_answer}
 use Rattle.answers.specs.Settings.{setting_refusal, places_refusal}
 use Rattle.answers.proofs.Answering.{setting_zero, pruning_zero, places_zero, places_enough}
-use Rattle.finding.specs.declared.Outcome.{Outcome}
 use Rattle.finding.specs.Settings.{polygraph_refusal}
-use Rattle.finding.specs.Finding.{refused_outcome, Finds}
+use Rattle.finding.specs.Finding.{Finds}
 
 -- ---- pruning, by its number
 
@@ -61,37 +63,22 @@ rows_tidy b ts ok e rs is =
 
 -- ---- a refusal
 
-pub refused_finds : (h : History) (e pruning places : ℕ) (listed : Bool) (t ks : List ℕ) (number n : ℕ) → n ≢ 0 → n ≡ number → Finds number h e pruning places listed t ks (refused_outcome n)
-unfolding refused_outcome
-refused_finds h e pruning places listed t ks number n f is = record {
-  number_is = is;
-  found_is = λ z. absurd (f z);
-  order_is = λ z. absurd (f z);
-  count_is = λ z. absurd (f z);
-  left_is = λ z. absurd (f z);
-  items_are = λ z. absurd (f z);
-  few = omega arith;
-  fits = omega arith;
-  within = omega arith;
-  none = λ z. refl;
-}
-
-module _ (h : History) (e pruning places : ℕ) (listed : Bool) (t ks : List ℕ) (number : ℕ) where
-  abbrev whole_number : ℕ
-  whole_number = polygraph_refusal h e pruning places 32
-
-  pub setting_finds : (r : Outcome) → number ≢ 0 → number ≡ setting_refusal e pruning → r ≡ refused_outcome number → Finds (polygraph_refusal h e pruning places 32) h e pruning places listed t ks r
-  setting_finds r f is q =
-      subst (Finds (polygraph_refusal h e pruning places 32) h e pruning places listed t ks) (sym q)
-      (refused_finds h e pruning places listed t ks whole_number number f (is ∙ sym (ap (λ b. cond b (places_refusal (length (constraints h e)) places 32) (setting_refusal e pruning)) (ne_eqb (setting_refusal e pruning) 0 (λ z. f (is ∙ z))))))
+module _ (h : History) (e pruning places words : ℕ) where
+  pub setting_number : setting_refusal e pruning ≢ 0 → polygraph_refusal h e pruning places words ≡ setting_refusal e pruning
+  setting_number f = ap (λ b. cond b (places_refusal (length (constraints h e)) places words) (setting_refusal e pruning)) (ne_eqb (setting_refusal e pruning) 0 f)
 
   -- the number where the setting is taken
-  pub counted_number : (n : ℕ) → setting_refusal e pruning ≡ 0 → n ≡ length (constraints h e) → number ≡ places_refusal n places 32 → number ≡ polygraph_refusal h e pruning places 32
-  counted_number n z c is =
-      is ∙ ap (λ k. places_refusal k places 32) c ∙ sym (ap (λ b. cond b (places_refusal (length (constraints h e)) places 32) (setting_refusal e pruning)) (eq-eqb (setting_refusal e pruning) 0 z))
+  pub counted_number : (n : ℕ) → setting_refusal e pruning ≡ 0 → n ≡ length (constraints h e) → polygraph_refusal h e pruning places words ≡ places_refusal n places words
+  counted_number n z c =
+      ap (λ b. cond b (places_refusal (length (constraints h e)) places words) (setting_refusal e pruning)) (eq-eqb (setting_refusal e pruning) 0 z)
+      ∙ ap (λ k. places_refusal k places words) (sym c)
 
-  pub places_finds : (n : ℕ) (r : Outcome) → setting_refusal e pruning ≡ 0 → n ≡ length (constraints h e) → number ≡ places_refusal n places 32 → number ≢ 0 → r ≡ refused_outcome number → Finds (polygraph_refusal h e pruning places 32) h e pruning places listed t ks r
-  places_finds n r z c is f q = subst (Finds (polygraph_refusal h e pruning places 32) h e pruning places listed t ks) (sym q) (refused_finds h e pruning places listed t ks whole_number number f (counted_number n z c is))
+module _ (h : History) (e pruning places : ℕ) (listed : Bool) (t ks : List ℕ) (r : Refusal) where
+  pub setting_finds : code r ≡ setting_refusal e pruning → Finds (polygraph_refusal h e pruning places 32) h e pruning places listed t ks (Err r)
+  setting_finds is = record { number_is = is ∙ sym (setting_number h e pruning places 32 (λ z. code_some r (is ∙ z))); found = tt }
+
+  pub places_finds : (n : ℕ) → setting_refusal e pruning ≡ 0 → n ≡ length (constraints h e) → code r ≡ places_refusal n places 32 → Finds (polygraph_refusal h e pruning places 32) h e pruning places listed t ks (Err r)
+  places_finds n z c is = record { number_is = is ∙ sym (counted_number h e pruning places 32 n z c); found = tt }
 
 -- ---- the answer: `used` is the pruning that was done
 
@@ -117,19 +104,19 @@ module _ (h : History) (e pruning places : ℕ) (listed : Bool) (used : ℕ) (sa
     rows_are = kept.rows_are ∙ ap (λ (p : Polygraph). reach p.known) settled_is;
   }
 
-  pub answer_finds : (f : Found) → f ≡ first_answer h → Finds (polygraph_refusal h e pruning places 32) h e pruning places listed t ls (record { number = 0; found = f.found; order = f.order; count = n; left = left })
-  unfolding first_answer encoded_count
-  answer_finds f is = record {
-    number_is = counted_number h e pruning places listed t ls 0 n zero plan.chosen_are.count_is (sym room);
-    found_is = λ z. ap (λ (x : Found). x.found) is;
-    order_is = λ z. ap (λ (x : Found). x.order) is;
-    count_is = λ z. plan.chosen_are.count_is;
-    left_is = λ z l. sym (items_length t ls left) ∙ ap length (items l);
-    items_are = λ z. items;
-    few = plan.chosen_are.low;
-    fits = (places_zero n places 32 room).0;
-    within = within;
-    none = λ f. absurd (f refl);
+  pub answer_finds : (o : Option (List ℕ)) → o ≡ first_answer h → Finds (polygraph_refusal h e pruning places 32) h e pruning places listed t ls (Ok (record { order = o; count = n; left = left }))
+  unfolding encoded_count
+  answer_finds o is = record {
+    number_is = sym (counted_number h e pruning places 32 n zero plan.chosen_are.count_is ∙ room);
+    found = record {
+      order_is = is;
+      count_is = plan.chosen_are.count_is;
+      left_is = λ l. sym (items_length t ls left) ∙ ap length (items l);
+      items_are = items;
+      few = plan.chosen_are.low;
+      fits = (places_zero n places 32 room).0;
+      within = within;
+    };
   }
 
 -- ---- places

@@ -2,40 +2,28 @@
 #![tactic(auto)]
 
 ghost use Rattle.std.specs.Prelude.{◌≡◌, true, ◌⊎◌, List, ℕ, ◌≤◌};
-ghost use Rattle.model.specs.Times.{times, timed_number, timed_history};
+ghost use Rattle.model.specs.Times.{times, timed_history};
 ghost use Rattle.model.specs.Polygraph.{reach};
 ghost use Rattle.model.specs.RowWords.{Tidy};
+ghost use Rattle.setting.specs.Encodings.{pruning_number};
 ghost use Rattle.listing.specs.Candidates.{items_by};
 ghost use Rattle.listing.specs.Choosing.{Space};
 ghost use Rattle.pruning.specs.Numbers.{PrunedTo};
 ghost use Rattle.pruning.specs.Passes.{settled};
 ghost use Rattle.finding.specs.Settings.{polygraph_refusal};
-ghost use Rattle.finding.specs.Finding.{refused_outcome, Finds};
+ghost use Rattle.finding.specs.Finding.{Finds};
 
-use answers::settings::{places_refusal, setting_refusal};
+use answers::settings::{test_places, test_setting};
 use listing::{PLACES, WORDS};
+use logs::times::TimedLog;
+use refusals::Refusal;
 
-// The refusal or 0; whether there is an order, and its numbers; the count of constraints before pruning and, where a list is to be written, of those left.
+// The first legal order as 32 numbers, if there is one; the count of constraints before pruning and, where a list is to be written, of those left.
 #[derive(Clone, Copy)]
 pub struct Outcome {
-    pub number: u8,
-    pub found: bool,
-    pub order: [u8; 32],
+    pub order: Option<[u8; 32]>,
     pub count: u16,
     pub left: u16,
-}
-
-// A refusal, with nothing beside it.
-fn refused(number: u8) -> Outcome
-    ensures { result ≡ refused_outcome number }
-{
-    Outcome {
-        number,
-        found: false,
-        order: [0; 32],
-        count: 0,
-        left: 0,
-    }
 }
 
 // The candidates that pruning leaves of the first n, or all of them; how many. The row words are closed, and stay so.
@@ -44,66 +32,45 @@ fn settle(
     tables: &[u32; WORDS],
     chosen: &mut [u16; PLACES],
     n: u16,
-    pruning: u8,
+    pruned: bool,
 ) -> u16
     requires { n ≤ 4096 }
     ensures { (result ≤ n) × ((g : List ℕ) → rows.old ≡ reach g → Tidy g
-        → PrunedTo (settled pruning (record { known = g; choices = items_by tables.now chosen.old n })) tables.now chosen.new result rows.new) }
+        → PrunedTo (settled (pruning_number pruned) (record { known = g; choices = items_by tables.now chosen.old n })) tables.now chosen.new result rows.new) }
 {
-    if pruning == 1 {
+    if pruned {
         return pruning::numbers::prune(rows, tables, chosen, n);
     }
     n
 }
 
-// The pruning that the search starts from. Where the known edges have a cycle there is no order, whatever pruning leaves: it is then done only for a list.
-fn pruning_needed(pruning: u8, listed: bool, closed: [u32; 32]) -> u8
-    ensures { (listed ≡ true → result ≡ pruning) × ((result ≡ pruning) ⊎ (result ≡ 0)) }
+// Whether the search starts from a pruned list. Where the known edges have a cycle there is no order, whatever pruning leaves: it is then done only for a list.
+fn pruning_needed(pruned: bool, listed: bool, closed: [u32; 32]) -> bool
+    ensures { (listed ≡ true → pruning_number result ≡ pruning_number pruned) × ((pruning_number result ≡ pruning_number pruned) ⊎ (pruning_number result ≡ 0)) }
 {
-    if listed {
-        return pruning;
-    }
-    if graph::cyclic(closed) { 0 } else { pruning }
+    pruned && (listed || !graph::cyclic(closed))
 }
 
-// What Decide finds for a list of so many places. The tables and the candidates' numbers are lent: where a list is to be written, the constraints left stand in them.
+// What Decide finds for a list of so many places, in the setting with document 01's numbers, which it tests (12). The tables and the candidates' numbers are lent: where a list is to be written, the constraints left stand in them.
 pub fn decided(
-    log: &[u8],
-    begin: &[u32],
-    end: &[u32],
-    drift: u32,
+    window: TimedLog<'_>,
     encoding: u8,
     pruning: u8,
     places: usize,
     listed: bool,
     tables: &mut [u32; WORDS],
     chosen: &mut [u16; PLACES],
-) -> Outcome
-    requires { (timed_number log.now (times begin.now end.now drift) ≡ 0) × Space tables.old chosen.old }
-    ensures { Finds (polygraph_refusal (timed_history log.now (times begin.now end.now drift)) encoding pruning places 32) (timed_history log.now (times begin.now end.now drift)) encoding pruning places listed tables.new chosen.new result }
+) -> Result<Outcome, Refusal>
+    requires { Space tables.old chosen.old }
+    ensures { Finds (polygraph_refusal (timed_history window.entry.log.bytes.now (times window.entry.clock.begin.now window.entry.clock.end.now window.entry.clock.drift)) encoding pruning places 32) (timed_history window.entry.log.bytes.now (times window.entry.clock.begin.now window.entry.clock.end.now window.entry.clock.drift)) encoding pruning places listed tables.new chosen.new result }
 {
-    let setting = setting_refusal(encoding, pruning);
-    if setting != 0 {
-        return refused(setting);
-    }
-    let known = encoding::prepare(log, begin, end, drift, encoding, tables, chosen);
+    let setting = test_setting(encoding, pruning)?;
+    let known = encoding::prepare(window, setting.encoding, tables, chosen);
     let count = known.count;
-    let number = places_refusal(count, places, 32);
-    if number != 0 {
-        return refused(number);
-    }
-    let rows = known.rows;
-    let mut closed = graph::closure(rows);
-    let used = pruning_needed(pruning, listed, closed);
+    test_places(count, places, 32)?;
+    let mut closed = graph::closure(known.rows);
+    let used = pruning_needed(setting.pruned, listed, closed);
     let left = settle(&mut closed, tables, chosen, count, used);
-    let f = decision::first_settled(log, tables, chosen, left, closed);
-    let found = f.found;
-    let order = f.order;
-    Outcome {
-        number: 0,
-        found,
-        order,
-        count,
-        left,
-    }
+    let order = decision::first_settled(window.log, tables, chosen, left, closed);
+    Ok(Outcome { order, count, left })
 }

@@ -1,18 +1,14 @@
 -- A side that is there already. Assumes nothing.
 --     side_start, side_next, side_missing, side_end      a loop through the sources, lowest first, that looks for each edge
 --     held_same        a side that the closed words have changes none of them
-use Rattle.std.proofs.Common.{◌≡◌, ℕ, ◌^◌, ◌<◌, Bool, true, false, cond, not, ◌&&◌, T, eqb, ◌≢◌, ◌⊎◌, List, [], ◌∷◌, sym, refl, ap, ◌∙◌, subst, inl, inr, ⊎_elim}
-use lib.Count.{count_trailing_zeros}
+use Rattle.std.proofs.Common.{◌≡◌, ℕ, ◌^◌, ◌<◌, Bool, true, false, cond, ◌&&◌, T, ◌⊎◌, List, [], ◌∷◌, sym, refl, ap, ◌∙◌, subst, inl, inr, ⊎_elim}
 use Rattle.model.specs.Lists.{all, implies, keep, up_to, bit}
 use Rattle.model.specs.Polygraph.{has, with_side, reach, Way}
 use Rattle.model.specs.RowWords.{Tidy, side_in}
 use Rattle.model.proofs.Basics.{iff_eq, implies_out, all_up_to_out}
 use Rattle.model.proofs.Closed.{side_way, way_side}
 use Rattle.model.proofs.Reach.{way_join, way_reach, reach_way}
-use Rattle.graph.specs.Masks.{without}
 use Rattle.graph.specs.Members.{members}
-use Rattle.graph.proofs.MemberLaws.{members_none, members_next}
-use Rattle.graph.proofs.WordLaws.{bit_without}
 use Rattle.graph.proofs.Rows.{rows_ext, reach_length, reach_small, side_tidy, bit_below}
 
 -- ---- the loop
@@ -34,22 +30,20 @@ module _ (d : List ℕ) (to : ℕ) where
   unfolding side_in sources_in members
   side_start from = sym (every_kept (bit from) (λ s. has d s to) (up_to 32))
 
-  module _ (m : ℕ) (l : m < 2 ^ 32) (ne : m ≢ 0) where
-    next : (r : ℕ) → ((s : ℕ) → bit r s ≡ (bit m s && not (eqb s (count_trailing_zeros 32 m)))) → sources_in m ≡ (has d (count_trailing_zeros 32 m) to && sources_in r)
+  module _ (m s r : ℕ) (is : members m ≡ s ∷ members r) where
+    next : sources_in m ≡ (has d s to && sources_in r)
     unfolding sources_in
-    next r f = ap (all (λ s. has d s to)) (members_next m r l ne f)
+    next = ap (all (λ s. has d s to)) is
 
-    pub side_next : (r : ℕ) → ((s : ℕ) → bit r s ≡ (bit m s && not (eqb s (count_trailing_zeros 32 m)))) → has d (count_trailing_zeros 32 m) to ≡ true → sources_in m ≡ sources_in r
-    side_next r f e = next r f ∙ ap (λ (b : Bool). b && sources_in r) e
+    pub side_next : has d s to ≡ true → sources_in m ≡ sources_in r
+    side_next e = next ∙ ap (λ (b : Bool). b && sources_in r) e
 
-    pub side_missing : has d (count_trailing_zeros 32 m) to ≡ false → sources_in m ≡ false
-    side_missing e =
-        let r = without m (count_trailing_zeros 32 m) in
-        next r (bit_without m (count_trailing_zeros 32 m)) ∙ ap (λ (b : Bool). b && sources_in r) e
+    pub side_missing : has d s to ≡ false → sources_in m ≡ false
+    side_missing e = next ∙ ap (λ (b : Bool). b && sources_in r) e
 
-  pub side_end : (m : ℕ) → m ≡ 0 → sources_in m ≡ true
+  pub side_end : (m : ℕ) → members m ≡ [] → sources_in m ≡ true
   unfolding sources_in
-  side_end m e = ap (λ (x : ℕ). all (λ s. has d s to) (members x)) e ∙ ap (all (λ s. has d s to)) members_none
+  side_end m e = ap (all (λ s. has d s to)) e
 
 -- ---- nothing new
 

@@ -10,7 +10,14 @@ ghost use Rattle.graph.specs.Leaving.{LeavesBelow};
 
 pub mod mask;
 
-pub use mask::{has, with};
+pub use mask::{has, members, with};
+
+// A side of a constraint: an edge from each node of the set `from` to `to`.
+#[derive(Clone, Copy)]
+pub struct Side {
+    pub from: u32,
+    pub to: u32,
+}
 
 // Row u, with an edge to `to` where u is in the set `from`.
 fn point(from: u32, to: u32, u: u32, row: u32) -> u32
@@ -26,8 +33,8 @@ pub fn add_side(rows: [u32; 32], from: u32, to: u32) -> [u32; 32]
     ensures { result ≡ with_side rows from to }
 {
     let mut out = rows;
-    for i in 0..32 {
-        out[i] = point(from, to, i as u32, out[i]);
+    for (u, row) in out.iter_mut().enumerate() {
+        *row = point(from, to, u as u32, *row);
     }
     out
 }
@@ -41,30 +48,26 @@ fn absorb(via: u32, k: u32, row: u32) -> u32
 }
 
 // One round of the closure: an edge from u to v wherever the path u, k, v is there.
-fn stage(k: usize, rows: [u32; 32]) -> [u32; 32]
+fn stage(k: usize, rows: &mut [u32; 32])
     requires { k < 32 }
-    ensures { result ≡ through rows k }
+    ensures { rows.new ≡ through rows.old k }
 {
     let via = rows[k];
-    let mut out = rows;
-    for i in 0..32 {
-        out[i] = absorb(via, k as u32, out[i]);
+    for row in rows.iter_mut() {
+        *row = absorb(via, k as u32, *row);
     }
-    out
 }
 
 // Below which number all nodes are that an edge leaves.
 fn top(rows: [u32; 32]) -> usize
     ensures { (result ≤ 32) × LeavesBelow rows result }
 {
-    let mut n: usize = 32;
-    while n > 0 {
-        if rows[n - 1] != 0 {
-            return n;
+    for u in (0..32).rev() {
+        if rows[u] != 0 {
+            return u + 1;
         }
-        n -= 1;
     }
-    n
+    0
 }
 
 // The closed words of the graph. Rounds through nodes that no edge leaves change nothing.
@@ -74,8 +77,7 @@ pub fn closure(rows: [u32; 32]) -> [u32; 32]
     let n = top(rows);
     let mut out = rows;
     for k in 0..n {
-        let next = stage(k, out);
-        out = next;
+        stage(k, &mut out);
     }
     out
 }
@@ -108,12 +110,12 @@ pub fn take(rows: &mut [u32; 32], from: u32, to: u32)
 {
     let row = rows[to as usize];
     let add = with(row, to);
-    for i in 0..32 {
-        rows[i] = extend_row(from, add, i as u32, rows[i]);
+    for (u, row) in rows.iter_mut().enumerate() {
+        *row = extend_row(from, add, u as u32, *row);
     }
 }
 
-// The same by value.
+// The same by value, as document 01 names row words: taken and returned.
 pub fn extend(closed: [u32; 32], from: u32, to: u32) -> [u32; 32]
     requires { to < 32 }
     ensures { (g : List ℕ) → closed ≡ reach g → Tidy g → result ≡ reach (with_side g from to) }
@@ -128,13 +130,10 @@ pub fn side_held(rows: &[u32; 32], from: u32, to: u32) -> bool
     requires { to < 32 }
     ensures { result ≡ side_in rows.now from to }
 {
-    let mut m = from;
-    while m != 0 {
-        let s = u32::trailing_zeros(m);
+    for s in members(from) {
         if !has(rows[s as usize], to) {
             return false;
         }
-        m = mask::clear_low(m);
     }
     true
 }
@@ -143,8 +142,8 @@ pub fn side_held(rows: &[u32; 32], from: u32, to: u32) -> bool
 pub fn cyclic(closed: [u32; 32]) -> bool
     ensures { (g : List ℕ) → closed ≡ reach g → result ≡ «cyclic» g }
 {
-    for u in 0..32 {
-        if has(closed[u], u as u32) {
+    for (u, row) in closed.iter().enumerate() {
+        if has(*row, u as u32) {
             return true;
         }
     }

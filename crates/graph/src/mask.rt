@@ -1,8 +1,10 @@
-// Sets of nodes below 32, as words: bit v stands for v.
+// Sets of nodes below 32, as words: bit v stands for v. A loop through the members of one is `for v in members(set)`.
 ghost use Rattle.std.specs.Prelude.{◌≡◌, ℕ, ◌^◌, ◌<◌, not, ◌&&◌, if◌then◌else◌, ◌==◌, bit_or};
 ghost use Rattle.std.specs.Int.Count.{count_trailing_zeros};
+ghost use Rattle.std.specs.Iterator.{YieldsFirst, item_count};
 ghost use Rattle.model.specs.Lists.{bit};
 ghost use Rattle.graph.specs.Masks.{put_if};
+ghost use Rattle.graph.specs.Members.{members};
 
 // Whether v is in the set `mask`.
 pub fn has(mask: u32, v: u32) -> bool
@@ -50,6 +52,36 @@ pub fn clear_low(set: u32) -> u32
     ensures { (result < set) × ((s : ℕ) → bit result s ≡ (bit set s && not (s == (count_trailing_zeros 32 set)))) }
 {
     set & (set - 1)
+}
+
+// What is left of a set whose members come one after another, lowest first.
+#[derive(Drop)]
+pub struct LowestFirst {
+    pub left: u32,
+}
+
+impl Iterator for LowestFirst {
+    type Item = u32;
+
+    ghost next_gives = { YieldsFirst (λ s. members s.left) };
+
+    ghost remaining = { item_count (λ s. members s.left) };
+
+    fn next(&mut self) -> Option<u32> {
+        if self.left == 0 {
+            return None;
+        }
+        let v = u32::trailing_zeros(self.left);
+        self.left = clear_low(self.left);
+        Some(v)
+    }
+}
+
+// The members of a set, lowest first.
+pub fn members(set: u32) -> LowestFirst
+    ensures { result.left ≡ set }
+{
+    LowestFirst { left: set }
 }
 
 // The lowest member of a set, as a set; of none, none.

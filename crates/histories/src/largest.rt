@@ -30,8 +30,8 @@ fn blind_byte(m: usize, f: usize) -> u8 {
 // The one log or the other. The head and the entries are those of the full log: 8 operations in each transaction.
 pub fn busy(ring: bool) -> [u8; 1156] {
     let mut out = full();
-    for i in 0..1024usize {
-        out[132 + i] = if ring {
+    for (i, byte) in out.iter_mut().skip(132).enumerate() {
+        *byte = if ring {
             ring_byte(i / 4, i % 4)
         } else {
             blind_byte(i / 4, i % 4)

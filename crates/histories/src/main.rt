@@ -4,7 +4,8 @@
 #![tactic(auto)]
 
 use checker::{Case, Decision, Verdict};
-use samples::lines::{end, number, text, value, yes_no};
+use refusals::number_of;
+use samples::lines::{end, number, numbers, text, yes_no};
 use samples::tables::levels;
 use samples::{load_number, loaded, loaded_from};
 
@@ -25,61 +26,32 @@ fn left(log: &[u8], encoding: u8, pruning: u8) -> u64 {
     e.left as u64
 }
 
-// 100 an order, 101 none, or the number of a refusal.
-fn verdict_number(v: Verdict) -> u64 {
-    match v {
-        Verdict::Order => 100,
-        Verdict::NoOrder => 101,
-        Verdict::Refused(n) => n as u64,
-    }
-}
-
 // Whether two decisions say the same.
 fn same(a: Decision, b: Decision) -> bool {
-    let v = a.verdict;
-    let w = b.verdict;
-    let o = a.order;
-    let p = b.order;
-    verdict_number(v) == verdict_number(w) && check::same(&o, &p)
+    a.verdict == b.verdict && a.order == b.order
 }
 
 // In how many of the six settings Decide says what it says in the first.
 fn settings(log: &[u8]) -> u64 {
-    let mut n: u64 = 0;
-    for s in 0..6u8 {
-        if same(decided(log, s), decided(log, 0)) {
-            n = n % 6 + 1;
-        }
-    }
-    n
+    let first = decided(log, 0);
+    (0..6u8).filter(|s| same(decided(log, *s), first)).count() as u64
 }
 
 // ---- the lines
 
-// The first n numbers of an order.
-fn print_order(order: [u8; 32], n: usize) {
-    text(b" order");
-    for i in 0..32usize {
-        if i < n {
-            number(order[i] as u64);
-        }
-    }
-}
-
 // What Decide says, of a log of n transactions.
 fn print_decision(d: Decision, n: usize) {
-    let v = d.verdict;
-    let order = d.order;
-    match v {
-        Verdict::Order => print_order(order, n),
-        Verdict::NoOrder => text(b" no order"),
-        Verdict::Refused(r) => print_refusal(r),
+    match d.verdict {
+        Ok(Verdict::Order) => {
+            text(b" order");
+            numbers(&d.order[..n.min(32)]);
+        }
+        Ok(Verdict::NoOrder) => text(b" no order"),
+        Err(refusal) => {
+            text(b" refused");
+            number(refusal.number());
+        }
     }
-}
-
-fn print_refusal(n: u8) {
-    text(b" refused");
-    number(n as u64);
 }
 
 // The line of a history of n transactions: what the calls say of it, and its counts.
@@ -92,13 +64,13 @@ fn show_counts(name: &[u8], log: &[u8], n: usize) {
     text(b" in");
     number(settings(log));
     text(b" settings; constraints");
-    number(left(log, 0, 0));
-    number(left(log, 1, 0));
-    number(left(log, 2, 0));
+    for encoding in 0..3u8 {
+        number(left(log, encoding, 0));
+    }
     text(b", pruned");
-    number(left(log, 0, 1));
-    number(left(log, 1, 1));
-    number(left(log, 2, 1));
+    for encoding in 0..3u8 {
+        number(left(log, encoding, 1));
+    }
     end();
 }
 
@@ -112,19 +84,19 @@ fn show(name: &[u8], log: &[u8], n: usize) {
 fn print_set(set: u32) {
     for t in 0..32u32 {
         if set >> t & 1 == 1 {
-            number(t as u64);
+            number(t);
         }
     }
 }
 
 // The edges, by the transaction that they come from.
-fn print_rows(rows: [u32; 32]) {
-    for u in 0..32usize {
-        if rows[u] != 0 {
+fn print_rows(rows: &[u32; 32]) {
+    for (u, row) in rows.iter().enumerate() {
+        if *row != 0 {
             text(b"; edges from");
             number(u as u64);
             text(b" to");
-            print_set(rows[u]);
+            print_set(*row);
         }
     }
     end();
@@ -136,7 +108,7 @@ fn print_side(name: &[u8], from: u32, to: u32) {
     text(b" from");
     print_set(from);
     text(b" to");
-    number(to as u64);
+    number(to);
 }
 
 // The first constraint of a log in an encoding, and its known edges.
@@ -151,44 +123,36 @@ fn show_polygraph(name: &[u8], log: &[u8], encoding: u8) {
         print_side(b"; A", out[0], out[1]);
         print_side(b", B", out[2], out[3]);
     }
-    print_rows(rows);
+    print_rows(&rows);
 }
 
 // ---- starting from levels
 
 // What Decide says from the levels.
 fn decided_from_levels(log: &[u8]) -> Decision {
-    let starting = levels();
-    lender::decide(loaded_from(log, &starting), 2, 1)
+    lender::decide(loaded_from(log, &levels()), 2, 1)
 }
 
 // Whether all keys but 0 and 1, which alone are written, have their levels.
-fn kept(table: [u16; 32]) -> bool {
-    let starting = levels();
-    let mut rest = table;
-    rest[0] = starting[0];
-    rest[1] = starting[1];
-    samples::tables::same(rest, starting)
+fn kept(table: &[u16; 32], starting: &[u16; 32]) -> bool {
+    table[2..] == starting[2..]
 }
 
 // The line of what Table gives then: the values of keys 0 and 1, whose levels are 65535 and 1001, and whether the others have theirs.
 fn show_levels(name: &[u8], log: &[u8]) {
     let d = decided_from_levels(log);
-    let c = d.case;
     let mut out = [9u16; 32];
-    let a = c.table(&mut out);
-    let r = a.reply;
+    let a = d.case.table(&mut out);
     text(name);
     text(b" from levels: decided as from zeros");
     yes_no(same(d, decided(log, 5)));
     text(b"; table");
-    number(r.number() as u64);
-    if r.number() == 0 {
+    number(number_of(a.reply));
+    if a.reply.is_ok() {
         text(b", keys 0 and 1:");
-        value(out[0]);
-        value(out[1]);
+        numbers(&out[..2]);
         text(b", the others as they were");
-        yes_no(kept(out));
+        yes_no(kept(&out, &levels()));
     }
     end();
 }
@@ -283,10 +247,12 @@ fn read_backs() {
 
 // The most constraints that 256 operations give: 3,840 in encoding 0, and 3,968 in encodings 1 and 2.
 fn most() {
-    let ring = largest::busy(true);
-    show_counts(b"a ring of reads and writes of 4 keys", &ring, 32);
-    let blind = largest::busy(false);
-    show_counts(b"blind writes of 8 keys", &blind, 32);
+    show_counts(
+        b"a ring of reads and writes of 4 keys",
+        &largest::busy(true),
+        32,
+    );
+    show_counts(b"blind writes of 8 keys", &largest::busy(false), 32);
 }
 
 // ---- what Judge prints

@@ -12,8 +12,7 @@ fn put_pair(v: u16, at: usize, out: &mut [u8])
     requires { at + 2 ≤ length out.old }
     ensures { out.new ≡ pair_bytes at v out.old }
 {
-    out[at] = (v % 256) as u8;
-    out[at + 1] = (v / 256) as u8;
+    out[at..at + 2].copy_from_slice(&v.to_le_bytes());
 }
 
 // Four bytes of a number.
@@ -21,10 +20,7 @@ fn put_word(v: u32, at: usize, out: &mut [u8])
     requires { at + 4 ≤ length out.old }
     ensures { out.new ≡ word_bytes at v out.old }
 {
-    out[at] = (v % 256) as u8;
-    out[at + 1] = (v / 256 % 256) as u8;
-    out[at + 2] = (v / 65536 % 256) as u8;
-    out[at + 3] = (v / 16777216) as u8;
+    out[at..at + 4].copy_from_slice(&v.to_le_bytes());
 }
 
 // The 32 values of a table.
@@ -32,10 +28,8 @@ pub fn put_values(values: &[u16; 32], out: &mut [u8])
     requires { 64 ≤ length out.old }
     ensures { out.new ≡ filled (value_in values.now) 32 out.old }
 {
-    let mut i: usize = 0;
-    while i < 32 {
-        put_pair(values[i], 2 * i, out);
-        i += 1;
+    for (i, v) in values.iter().enumerate() {
+        put_pair(*v, 2 * i, out);
     }
 }
 
@@ -45,22 +39,18 @@ pub fn values(bytes: &[u8]) -> [u16; 32]
     ensures { result ≡ values_in bytes.now }
 {
     let mut out = [0u16; 32];
-    let mut i: usize = 0;
-    while i < 32 {
-        out[i] = logs::fields::pair(bytes, 2 * i) as u16;
-        i += 1;
+    for i in 0..32 {
+        out[i] = u16::from_le_bytes([bytes[2 * i], bytes[2 * i + 1]]);
     }
     out
 }
 
-// The number that four bytes hold. Its two halves are pairs.
+// The number that four bytes hold.
 fn word(bytes: &[u8], at: usize) -> u32
     requires { at + 4 ≤ length bytes.now }
     ensures { result ≡ word_at bytes.now at }
 {
-    let low = logs::fields::pair(bytes, at);
-    let high = logs::fields::pair(bytes, at + 2);
-    (low + 65536 * high) as u32
+    u32::from_le_bytes([bytes[at], bytes[at + 1], bytes[at + 2], bytes[at + 3]])
 }
 
 // The seconds that at most 128 bytes hold, four bytes each; what stands behind them in the array plays no part.
@@ -69,11 +59,8 @@ pub fn seconds(bytes: &[u8]) -> [u32; 32]
     ensures { take (length bytes.now / 4) result ≡ seconds_in bytes.now }
 {
     let mut out = [0u32; 32];
-    let n = bytes.len() / 4;
-    let mut i: usize = 0;
-    while i < n {
+    for i in 0..bytes.len() / 4 {
         out[i] = word(bytes, 4 * i);
-        i += 1;
     }
     out
 }
@@ -83,10 +70,8 @@ fn put_rows(rows: &[u32; 32], out: &mut [u8])
     requires { 130 ≤ length out.old }
     ensures { out.new ≡ filled (row_in rows.now) 32 out.old }
 {
-    let mut i: usize = 0;
-    while i < 32 {
-        put_word(rows[i], 2 + 4 * i, out);
-        i += 1;
+    for (i, r) in rows.iter().enumerate() {
+        put_word(*r, 2 + 4 * i, out);
     }
 }
 
@@ -106,11 +91,8 @@ fn put_constraints(words: &[u32], n: usize, out: &mut [u8])
     requires { (4 * n ≤ length words.now) × (130 + 10 * n ≤ length out.old) }
     ensures { out.new ≡ filled (words_in words.now) n out.old }
 {
-    let mut i: usize = 0;
-    while i < n {
-        let c = search::constraint_at(words, i);
-        put_constraint(c, 130 + 10 * i, out);
-        i += 1;
+    for i in 0..n {
+        put_constraint(search::constraint_at(words, i), 130 + 10 * i, out);
     }
 }
 
@@ -124,24 +106,14 @@ pub fn put_polygraph(left: usize, rows: &[u32; 32], words: &[u32], out: &mut [u8
     put_constraints(words, left, out);
 }
 
-// A signed number as two's complement. A cast takes no negative number, so -1 - z is cast, which is at least 0 there, and taken from the largest.
-fn complement(z: i32) -> u32
-    ensures { result ≡ twos z }
-{
-    if z < 0 {
-        return 4294967295 - (-1 - z) as u32;
-    }
-    z as u32
-}
-
-// The twelve bytes of a bill: mills, cents, travel.
+// The twelve bytes of a bill: mills, cents, and travel as two's complement.
 fn put_bill(b: Bill, at: usize, out: &mut [u8])
     requires { at + 12 ≤ length out.old }
     ensures { out.new ≡ bill_bytes at b out.old }
 {
     put_word(b.mills, at, out);
     put_word(b.cents, at + 4, out);
-    put_word(complement(b.travel), at + 8, out);
+    put_word(b.travel.cast_unsigned(), at + 8, out);
 }
 
 // The bills of the sixteen cabinets.
@@ -149,10 +121,7 @@ pub fn put_bills(bills: [Bill; 16], out: &mut [u8])
     requires { 192 ≤ length out.old }
     ensures { out.new ≡ filled (bill_in bills) 16 out.old }
 {
-    let mut i: usize = 0;
-    while i < 16 {
-        let b = bills[i];
-        put_bill(b, 12 * i, out);
-        i += 1;
+    for (i, b) in bills.iter().enumerate() {
+        put_bill(*b, 12 * i, out);
     }
 }

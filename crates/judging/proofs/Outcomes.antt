@@ -26,7 +26,9 @@ use Rattle.polygraph.specs.Tables.{writers_of}
 use Rattle.checker.specs.declared.Case.{Case}
 use Rattle.checker.specs.declared.Decision.{Decision}
 use Rattle.answers.specs.declared.Verdict.{Verdict}
-use Rattle.answers.specs.declared.Verdict.TheVariants.{Order, NoOrder, Refused}
+use Rattle.answers.specs.declared.Verdict.TheVariants.{Order, NoOrder}
+use Rattle.std.specs.Prelude.{Result, Ok, Err}
+use Rattle.refusals.specs.declared.Refusal.{Refusal}
 use Rattle.checker.specs.Cases.{history_in, stage_of, loaded_case}
 use Rattle.answers.specs.Stages.{is_fresh}
 use Rattle.answers.specs.Settings.{setting_refusal}
@@ -67,19 +69,19 @@ module _ (b : List ℕ) (ok : load_number b ≡ 0) where
   text_decided = ap (λ (n : ℕ). cond (eqb n 0) (decided_text h (first_legal h)) (refused_text n)) ok
 
   -- what each verdict says: Decide does not refuse
-  abbrev pub Said : Verdict → Case → Type 0
-  Said Order c = OrderedBy b c
-  Said NoOrder c = judge_text b ≡ no_order_text
-  Said (Refused n) c = ⊥
+  abbrev pub Said : Result Verdict Refusal → Case → Type 0
+  Said (Ok Order) c = OrderedBy b c
+  Said (Ok NoOrder) c = judge_text b ≡ no_order_text
+  Said (Err r) c = ⊥
 
   answered : (x : Option (List ℕ)) (k : ℕ) → first_legal h ≡ x → let d = decided held x k in Said d.verdict d.case
   unfolding decided decided_text
   answered none k e = text_decided ∙ ap (decided_text h) e
   answered (some o) k e = record { loads = ok; order = o; first = e; case_is = refl }
 
-  pub said : (d : Decision) → d ≡ deciding held 2 1 4096 → (v : Verdict) → d.verdict ≡ v → Said v d.case
+  pub said : (d : Decision) → d ≡ deciding held 2 1 4096 → (v : Result Verdict Refusal) → d.verdict ≡ v → Said v d.case
   said d e v is =
-      subst (λ (x : Verdict). Said x d.case) is
+      subst (λ (x : Result Verdict Refusal). Said x d.case) is
       (subst (λ (x : Decision). Said x.verdict x.case) (sym (e ∙ deciding_is)) (answered (first_legal h) (encoded_count h 2 1) refl))
 
 -- ---- a case that is decided with the first legal order

@@ -5,6 +5,7 @@
 ghost use Rattle.std.specs.Prelude.{◌≡◌, ℕ, ◌≤◌, ◌*◌, length, replicate};
 ghost use Rattle.model.specs.History.{History};
 ghost use Rattle.model.specs.Lent.{no_constraint};
+ghost use Rattle.setting.specs.Encodings.{pruning_number};
 ghost use Rattle.encoding.specs.Writing.{Planned};
 ghost use Rattle.checker.specs.Encodings.{encode_answer, encode_list, encode_rows};
 ghost use Rattle.checker.specs.Decisions.{deciding};
@@ -29,11 +30,8 @@ pub fn pack<'a, 'b>(list: &'a mut [Constraint], n: usize, out: &'b mut [u32])
     requires { (n ≤ length list.old) × (4 * n ≤ length out.old) }
     ensures { (list.new ≡ list.old) × (out.new ≡ packed n list.old out.old) }
 {
-    let mut i: usize = 0;
-    while i < n {
-        let c = list[i];
-        search::put_constraint(out, i, c);
-        i += 1;
+    for (i, c) in list[..n].iter().enumerate() {
+        search::put_constraint(out, i, *c);
     }
 }
 
@@ -63,15 +61,15 @@ pub fn written<'a, 'b>(
     chosen: &'a [u16; PLACES],
     rows: [u32; 32],
     n: u16,
-    pruning: u8,
+    pruned: bool,
     out: &'b mut [u32],
 ) -> Pruned
     requires { PlanFor tables.now chosen.now rows n × (16384 ≤ length out.old) }
-    ensures { (h : History) (e : ℕ) → Planned h e tables.now chosen.now rows n → Sent h e pruning result out.old out.new }
+    ensures { (h : History) (e : ℕ) → Planned h e tables.now chosen.now rows n → Sent h e (pruning_number pruned) result out.old out.new }
 {
     let mut list = [NOTHING; 4096];
-    let r = encoding::write(tables, chosen, rows, n, pruning, &mut list);
-    pack(&mut list, r.left as usize, out);
+    let r = encoding::write(tables, chosen, rows, n, pruned, &mut list);
+    pack(&mut list, usize::from(r.left), out);
     r
 }
 

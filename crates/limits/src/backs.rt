@@ -1,9 +1,9 @@
 // Read-backs and what stands a second time: 9, 10, 34 and 11, and the largest logs with read-backs. Two to four operations of one key take the place of the first bodies of
 // the full log, as operations of transaction 0 on key 0, and of its last, as operations of transaction 31 on key 31.
 use checker::Case;
-use samples::lines::line2;
+use samples::lines::line;
 use samples::{
-    ascending, check_first, check_number, full, full_backed, load_first, loaded, long, with_byte,
+    ascending, check_number, first, full, full_backed, load_number, loaded, long, with_byte,
 };
 
 // An operation: a write, or a read that names the start, its own transaction, another one, or 32.
@@ -20,9 +20,9 @@ enum Op {
 fn argument_of(o: Op, t: u8) -> u16 {
     match o {
         Op::Write => 7,
-        Op::Start => 65535,
-        Op::Own => t as u16,
-        Op::Other => (31 - t % 32) as u16,
+        Op::Start => trial::START,
+        Op::Own => u16::from(t),
+        Op::Other => u16::from(31 - t % 32),
         Op::Nobody => 32,
     }
 }
@@ -34,190 +34,128 @@ fn kind_of(o: Op) -> u8 {
     }
 }
 
-// The log with the operation as body m, which is one of transaction t, on key t.
-fn with_op(log: [u8; 1156], m: usize, t: u8, o: Op) -> [u8; 1156] {
+// The operation becomes body m of the log, which is one of transaction t, on key t.
+fn put(log: &mut [u8; 1156], m: usize, t: u8, o: Op) {
     let i = 132 + 4 * (m % 256);
-    let argument = argument_of(o, t);
-    let a = with_byte(log, i, kind_of(o));
-    let b = with_byte(a, i + 1, t);
-    let c = with_byte(b, i + 2, (argument % 256) as u8);
-    with_byte(c, i + 3, (argument / 256) as u8)
+    let [low, high] = argument_of(o, t).to_le_bytes();
+    log[i..i + 4].copy_from_slice(&[kind_of(o), t, low, high]);
 }
 
-// The number of the log with two operations at body m of transaction t.
-fn two(m: usize, t: u8, a: Op, b: Op) -> u64 {
-    let first = with_op(full(), m, t, a);
-    load_first(Case::fresh(), with_op(first, m % 256 + 1, t, b), 1156)
+// The number of the log with the operations from body m on, as those of transaction t.
+fn number_with(m: usize, t: u8, ops: &[Op]) -> u64 {
+    let mut log = full();
+    for (m, o) in (m..256).zip(ops) {
+        put(&mut log, m, t, *o);
+    }
+    load_number(Case::fresh(), &log)
 }
 
-// The same with three.
-fn three(m: usize, t: u8, a: Op, b: Op, c: Op) -> u64 {
-    let first = with_op(full(), m, t, a);
-    let second = with_op(first, m % 256 + 1, t, b);
-    load_first(Case::fresh(), with_op(second, m % 256 + 2, t, c), 1156)
-}
-
-// The same with four.
-fn four(m: usize, t: u8, a: Op, b: Op, c: Op, d: Op) -> u64 {
-    let first = with_op(full(), m, t, a);
-    let second = with_op(first, m % 256 + 1, t, b);
-    let third = with_op(second, m % 256 + 2, t, c);
-    load_first(Case::fresh(), with_op(third, m % 256 + 3, t, d), 1156)
-}
-
-// Two operations at bodies 0 and 1, and at bodies 254 and 255.
-fn show2(name: &[u8], a: Op, b: Op) {
-    line2(name, two(0, 0, a, b), two(254, 31, a, b));
-}
-
-// Three operations at bodies 0 to 2, and at bodies 253 to 255.
-fn show3(name: &[u8], a: Op, b: Op, c: Op) {
-    line2(name, three(0, 0, a, b, c), three(253, 31, a, b, c));
-}
-
-// Four operations at bodies 0 to 3, and at bodies 252 to 255.
-fn show4(name: &[u8], a: Op, b: Op, c: Op, d: Op) {
-    line2(name, four(0, 0, a, b, c, d), four(252, 31, a, b, c, d));
+// Operations as the first bodies, of transaction 0, and as the last, of transaction 31.
+fn show(name: &[u8], ops: &[Op]) {
+    let last = 256usize.saturating_sub(ops.len());
+    line(name, &[number_with(0, 0, ops), number_with(last, 31, ops)]);
 }
 
 // Behind a write, and where there is none.
 fn pairs() {
-    show2(b"read-back at body 1, 255:", Op::Write, Op::Own);
-    show2(
+    show(b"read-back at body 1, 255:", &[Op::Write, Op::Own]);
+    show(
         b"read-back of the starting value at body 1, 255:",
-        Op::Write,
-        Op::Start,
+        &[Op::Write, Op::Start],
     );
-    show2(
+    show(
         b"read-back that names another transaction at body 1, 255:",
-        Op::Write,
-        Op::Other,
+        &[Op::Write, Op::Other],
     );
-    show2(b"read-back of 32 at body 1, 255:", Op::Write, Op::Nobody);
-    show2(b"second write at body 1, 255:", Op::Write, Op::Write);
-    show2(
+    show(b"read-back of 32 at body 1, 255:", &[Op::Write, Op::Nobody]);
+    show(b"second write at body 1, 255:", &[Op::Write, Op::Write]);
+    show(
         b"second read of a key not written, the first names its own transaction:",
-        Op::Own,
-        Op::Start,
+        &[Op::Own, Op::Start],
     );
-    show2(
+    show(
         b"second read of a key not written that names its own transaction:",
-        Op::Start,
-        Op::Own,
+        &[Op::Start, Op::Own],
     );
 }
 
 // A read, the write and a read-back.
 fn triples() {
-    show3(
+    show(
         b"a read, the write, a read-back:",
-        Op::Start,
-        Op::Write,
-        Op::Own,
+        &[Op::Start, Op::Write, Op::Own],
     );
-    show3(
+    show(
         b"the same, where the read names its own transaction:",
-        Op::Own,
-        Op::Write,
-        Op::Own,
+        &[Op::Own, Op::Write, Op::Own],
     );
-    show3(
+    show(
         b"a read, the write, a read-back of the starting value:",
-        Op::Start,
-        Op::Write,
-        Op::Start,
+        &[Op::Start, Op::Write, Op::Start],
     );
-    show3(
+    show(
         b"a read, the write, a read-back that names another transaction:",
-        Op::Start,
-        Op::Write,
-        Op::Other,
+        &[Op::Start, Op::Write, Op::Other],
     );
-    show3(
+    show(
         b"second read before the write:",
-        Op::Start,
-        Op::Start,
-        Op::Write,
+        &[Op::Start, Op::Start, Op::Write],
     );
 }
 
 // What stands behind a read-back.
 fn seconds() {
-    show3(
+    show(
         b"second read-back at body 2, 255:",
-        Op::Write,
-        Op::Own,
-        Op::Own,
+        &[Op::Write, Op::Own, Op::Own],
     );
-    show3(
+    show(
         b"second read-back, of the starting value:",
-        Op::Write,
-        Op::Own,
-        Op::Start,
+        &[Op::Write, Op::Own, Op::Start],
     );
-    show3(
+    show(
         b"second read-back, of another transaction:",
-        Op::Write,
-        Op::Own,
-        Op::Other,
+        &[Op::Write, Op::Own, Op::Other],
     );
-    show3(b"second read-back, of 32:", Op::Write, Op::Own, Op::Nobody);
-    show3(
+    show(
+        b"second read-back, of 32:",
+        &[Op::Write, Op::Own, Op::Nobody],
+    );
+    show(
         b"second write behind a read-back:",
-        Op::Write,
-        Op::Own,
-        Op::Write,
+        &[Op::Write, Op::Own, Op::Write],
     );
-    show3(
+    show(
         b"read-back of the starting value, then a second write:",
-        Op::Write,
-        Op::Start,
-        Op::Write,
+        &[Op::Write, Op::Start, Op::Write],
     );
-    show3(
+    show(
         b"second write, then a read-back of the starting value:",
-        Op::Write,
-        Op::Write,
-        Op::Start,
+        &[Op::Write, Op::Write, Op::Start],
     );
 }
 
 // A second read and a second write in one transaction: the first of the two has the number.
 fn both() {
-    show4(
+    show(
         b"second read before the write, then a second write:",
-        Op::Start,
-        Op::Start,
-        Op::Write,
-        Op::Write,
+        &[Op::Start, Op::Start, Op::Write, Op::Write],
     );
-    show4(
+    show(
         b"second read-back, then a second write:",
-        Op::Write,
-        Op::Own,
-        Op::Own,
-        Op::Write,
+        &[Op::Write, Op::Own, Op::Own, Op::Write],
     );
-    show4(
+    show(
         b"second write, then a second read-back:",
-        Op::Write,
-        Op::Own,
-        Op::Write,
-        Op::Own,
+        &[Op::Write, Op::Own, Op::Write, Op::Own],
     );
-    show4(
+    show(
         b"second write at once, then two read-backs:",
-        Op::Write,
-        Op::Write,
-        Op::Own,
-        Op::Own,
+        &[Op::Write, Op::Write, Op::Own, Op::Own],
     );
-    show4(
+    show(
         b"a read, the write, a read-back, a second write:",
-        Op::Start,
-        Op::Write,
-        Op::Own,
-        Op::Write,
+        &[Op::Start, Op::Write, Op::Own, Op::Write],
     );
 }
 
@@ -228,18 +166,17 @@ pub fn numbers() {
     both();
 }
 
-// What Check says of the order 0 on the first 392 bytes.
-fn alone(log: &[u8]) -> u64 {
-    if log.len() < 392 {
-        return 1000;
-    }
-    check_number(loaded(&log[0..392]), b"\x00")
-}
-
-// 96 operations in one transaction.
+// 96 operations in one transaction: what Load says, and what Check says of the order 0.
 fn show_long(name: &[u8], rounds: bool) {
     let log = long(rounds);
-    line2(name, load_first(Case::fresh(), log, 392), alone(&log));
+    let head = first(&log, 392);
+    line(
+        name,
+        &[
+            load_number(Case::fresh(), head),
+            check_number(loaded(head), b"\x00"),
+        ],
+    );
 }
 
 // 256 operations, and 96 in one transaction. 100 stands for a legal order, 101 for one that is not.
@@ -248,15 +185,19 @@ pub fn taken() {
     let held = loaded(&log);
     let up = ascending();
     let swapped = with_byte(with_byte(ascending(), 0, 1), 1, 0);
-    line2(
+    line(
         b"T 32, N 256 with 96 read-backs: load, check of 0 to 31:",
-        load_first(Case::fresh(), log, 1156),
-        check_first(held, up, 32),
+        &[
+            load_number(Case::fresh(), &log),
+            check_number(held, first(&up, 32)),
+        ],
     );
-    line2(
+    line(
         b"the same: check of 31 numbers; of 1 before 0:",
-        check_first(held, up, 31),
-        check_first(held, swapped, 32),
+        &[
+            check_number(held, first(&up, 31)),
+            check_number(held, first(&swapped, 32)),
+        ],
     );
     show_long(
         b"32 keys read, written and read back by one transaction, key by key: load, check:",

@@ -1,9 +1,15 @@
 // The times: 37 and 38, each at its first and last place and behind every number before them; what a refusal leaves, and what Load stores.
 // In the log of two transactions each writes key 0; the lists here hold one second throughout, but for what a line says.
-use checker::{Answer, Case, Clock, Reply, Stage};
-use samples::clocks::{load_by, loaded_by, none};
-use samples::lines::{end, line1, line2, number, text, yes_no};
-use samples::{full, load_number_at, same_case, with_byte};
+use checker::{Answer, Case, Clock, Stage};
+use refusals::number_of;
+use samples::clocks::{load_by, loaded_by, none, with_count};
+use samples::lines::{end, line, number, text, yes_no};
+use samples::{first, full, load_number_at, with_byte};
+use std::array;
+
+// The log of two transactions.
+const TWO: &[u8] =
+    b"\x02\x00\x02\x00\x00\x01\x00\x00\x01\x01\x01\x00\x01\x00\x05\x00\x01\x00\x06\x00";
 
 // The highest second.
 const TOP: u32 = 4294967295;
@@ -11,6 +17,7 @@ const TOP: u32 = 4294967295;
 // ---- lists of one second throughout
 
 // What Load is asked beside the log: so many values of the starting table; so many begins, each at that second; so many ends, each at second 7; the drift.
+// There are at most 33 of each.
 #[derive(Clone, Copy)]
 struct Asked {
     values: usize,
@@ -20,33 +27,22 @@ struct Asked {
     drift: u32,
 }
 
-// Load of that. 255, which no call gives, where a list is longer than 33.
+// Load of that.
 fn load_asked(c: Case, log: &[u8], a: Asked) -> Answer {
-    let values = a.values;
-    let begins = a.begins;
-    let ends = a.ends;
-    if values > 33 || begins > 33 || ends > 33 {
-        return Answer {
-            case: c,
-            reply: Reply::Refused(255),
-        };
-    }
     let table = [9u16; 33];
     let begin = [a.begin; 33];
     let end = [7u32; 33];
     c.load(
         log,
-        &table[0..values],
-        &begin[0..begins],
-        &end[0..ends],
+        first(&table, a.values),
+        first(&begin, a.begins),
+        first(&end, a.ends),
         a.drift,
     )
 }
 
 fn number_asked(c: Case, log: &[u8], a: Asked) -> u64 {
-    let answer = load_asked(c, log, a);
-    let r = answer.reply;
-    r.number() as u64
+    u64::from(number_of(load_asked(c, log, a).reply))
 }
 
 // So many begins and ends, and a drift.
@@ -63,11 +59,8 @@ fn lists(begins: usize, ends: usize, drift: u32) -> Asked {
 // The same where each begin is a second after its end.
 fn late(begins: usize, ends: usize, drift: u32) -> Asked {
     Asked {
-        values: 32,
-        begins,
         begin: 8,
-        ends,
-        drift,
+        ..lists(begins, ends, drift)
     }
 }
 
@@ -75,10 +68,7 @@ fn late(begins: usize, ends: usize, drift: u32) -> Asked {
 fn short(begins: usize, ends: usize, drift: u32) -> Asked {
     Asked {
         values: 31,
-        begins,
-        begin: 8,
-        ends,
-        drift,
+        ..late(begins, ends, drift)
     }
 }
 
@@ -91,29 +81,25 @@ fn entries(log: &[u8], begins: usize, ends: usize) -> u64 {
 fn show_even(name: &[u8], log: &[u8], n: usize) {
     text(name);
     text(b", both lists of 0, T, T + 1 and 33 entries:");
-    number(entries(log, 0, 0));
-    number(entries(log, n, n));
-    number(entries(log, n % 33 + 1, n % 33 + 1));
-    number(entries(log, 33, 33));
+    for m in [0, n, n % 33 + 1, 33] {
+        number(entries(log, m, m));
+    }
     end();
 }
 
 // The same with lists of two lengths, of which one is empty or has T entries; n is not 0.
 fn show_uneven(name: &[u8], log: &[u8], n: usize) {
-    if n == 0 {
-        return;
-    }
+    let less = n.saturating_sub(1);
+    let more = n % 33 + 1;
     text(name);
     text(
         b", begins and ends: 0 and T; T and 0; T - 1 and T; T and T - 1; T + 1 and T; T and T + 1; both T - 1:",
     );
-    number(entries(log, 0, n));
-    number(entries(log, n, 0));
-    number(entries(log, n - 1, n));
-    number(entries(log, n, n - 1));
-    number(entries(log, n % 33 + 1, n));
-    number(entries(log, n, n % 33 + 1));
-    number(entries(log, n - 1, n - 1));
+    for m in [0, less, more] {
+        number(entries(log, m, n));
+        number(entries(log, n, m));
+    }
+    number(entries(log, less, less));
     end();
 }
 
@@ -121,109 +107,80 @@ fn show_uneven(name: &[u8], log: &[u8], n: usize) {
 fn show_drifts(name: &[u8], log: &[u8], n: usize) {
     text(name);
     text(b", drift 0, 1, 3600, 3601, 4294967295:");
-    number(number_asked(Case::fresh(), log, lists(n, n, 0)));
-    number(number_asked(Case::fresh(), log, lists(n, n, 1)));
-    number(number_asked(Case::fresh(), log, lists(n, n, 3600)));
-    number(number_asked(Case::fresh(), log, lists(n, n, 3601)));
-    number(number_asked(Case::fresh(), log, lists(n, n, TOP)));
+    for drift in [0, 1, 3600, 3601, TOP] {
+        number(number_asked(Case::fresh(), log, lists(n, n, drift)));
+    }
     end();
 }
 
 // 37: lists of one length.
 fn even() {
-    let most = full();
     show_even(b"T 0", b"\x00\x00\x00\x00", 0);
     show_even(b"T 1", b"\x01\x00\x00\x00\x00\x00\x00\x00", 1);
-    show_even(
-        b"T 2",
-        b"\x02\x00\x02\x00\x00\x01\x00\x00\x01\x01\x01\x00\x01\x00\x05\x00\x01\x00\x06\x00",
-        2,
-    );
-    show_even(b"T 32", &most, 32);
+    show_even(b"T 2", TWO, 2);
+    show_even(b"T 32", &full(), 32);
 }
 
 // Lists of two lengths.
 fn uneven() {
-    let most = full();
-    line2(
+    line(
         b"T 0, begins and ends: 0 and 1; 1 and 0:",
-        entries(b"\x00\x00\x00\x00", 0, 1),
-        entries(b"\x00\x00\x00\x00", 1, 0),
+        &[
+            entries(b"\x00\x00\x00\x00", 0, 1),
+            entries(b"\x00\x00\x00\x00", 1, 0),
+        ],
     );
     show_uneven(b"T 1", b"\x01\x00\x00\x00\x00\x00\x00\x00", 1);
-    show_uneven(
-        b"T 2",
-        b"\x02\x00\x02\x00\x00\x01\x00\x00\x01\x01\x01\x00\x01\x00\x05\x00\x01\x00\x06\x00",
-        2,
-    );
-    show_uneven(b"T 32", &most, 32);
+    show_uneven(b"T 2", TWO, 2);
+    show_uneven(b"T 32", &full(), 32);
 }
 
 // 38: the drift.
 fn drifts() {
-    let most = full();
-    let two = b"\x02\x00\x02\x00\x00\x01\x00\x00\x01\x01\x01\x00\x01\x00\x05\x00\x01\x00\x06\x00";
     show_drifts(b"T 0", b"\x00\x00\x00\x00", 0);
-    show_drifts(b"T 2 without times", two, 0);
-    show_drifts(b"T 2 with times", two, 2);
-    show_drifts(b"T 32 with times", &most, 32);
+    show_drifts(b"T 2 without times", TWO, 0);
+    show_drifts(b"T 2 with times", TWO, 2);
+    show_drifts(b"T 32 with times", &full(), 32);
 }
 
 // ---- a begin after its end
 
 // The number of the log of two transactions with these begins and ends.
 fn spans(begin: [u32; 2], end: [u32; 2]) -> u64 {
-    let zeros = [0u16; 32];
-    load_number_at(
-        Case::fresh(),
-        b"\x02\x00\x02\x00\x00\x01\x00\x00\x01\x01\x01\x00\x01\x00\x05\x00\x01\x00\x06\x00",
-        &zeros,
-        &begin,
-        &end,
-        0,
-    )
+    load_number_at(Case::fresh(), TWO, &[0; 32], &begin, &end, 0)
 }
 
 // The number of the full log where transaction t alone begins a second after its end, the drift being an hour.
 fn late_at(t: usize) -> u64 {
-    let log = full();
-    let zeros = [0u16; 32];
-    let end = [7u32; 32];
     let mut begin = [7u32; 32];
     begin[t % 32] = 8;
-    load_number_at(Case::fresh(), &log, &zeros, &begin, &end, 3600)
+    load_number_at(Case::fresh(), &full(), &[0; 32], &begin, &[7; 32], 3600)
 }
 
 fn turns() {
-    line2(
+    line(
         b"begin equal to its end, at second 0, 4294967295:",
-        spans([0, 0], [0, 0]),
-        spans([TOP, TOP], [TOP, TOP]),
+        &[spans([0, 0], [0, 0]), spans([TOP, TOP], [TOP, TOP])],
     );
-    line2(
+    line(
         b"begin a second before its end, there:",
-        spans([0, 0], [1, 1]),
-        spans([TOP - 1, TOP - 1], [TOP, TOP]),
+        &[spans([0, 0], [1, 1]), spans([TOP - 1, TOP - 1], [TOP, TOP])],
     );
-    line2(
+    line(
         b"begin a second after its end, there:",
-        spans([1, 1], [0, 0]),
-        spans([TOP, TOP], [TOP - 1, TOP - 1]),
+        &[spans([1, 1], [0, 0]), spans([TOP, TOP], [TOP - 1, TOP - 1])],
     );
-    line2(
+    line(
         b"from second 0 to 4294967295; from 4294967295 to 0:",
-        spans([0, 0], [TOP, TOP]),
-        spans([TOP, TOP], [0, 0]),
+        &[spans([0, 0], [TOP, TOP]), spans([TOP, TOP], [0, 0])],
     );
-    line2(
+    line(
         b"begin after its end at transaction 0, 1 of 2:",
-        spans([8, 7], [7, 7]),
-        spans([7, 8], [7, 7]),
+        &[spans([8, 7], [7, 7]), spans([7, 8], [7, 7])],
     );
-    line2(
+    line(
         b"begin after its end, by less than the drift, at transaction 0, 31 of 32:",
-        late_at(0),
-        late_at(31),
+        &[late_at(0), late_at(31)],
     );
 }
 
@@ -235,18 +192,22 @@ fn show_first(name: &[u8], log: &[u8]) {
     text(
         b", with lists of 1 and 2; a drift of 3601; begins after ends; all of it; all beside 31 values:",
     );
-    number(number_asked(Case::fresh(), log, lists(1, 2, 0)));
-    number(number_asked(Case::fresh(), log, lists(0, 0, 3601)));
-    number(number_asked(Case::fresh(), log, late(32, 32, 0)));
-    number(number_asked(Case::fresh(), log, late(1, 2, 3601)));
-    number(number_asked(Case::fresh(), log, short(1, 2, 3601)));
+    let faults = [
+        lists(1, 2, 0),
+        lists(0, 0, 3601),
+        late(32, 32, 0),
+        late(1, 2, 3601),
+        short(1, 2, 3601),
+    ];
+    for a in faults {
+        number(number_asked(Case::fresh(), log, a));
+    }
     end();
 }
 
 // The line of the full log with x at place i.
 fn show_changed(name: &[u8], i: usize, x: u8) {
-    let log = with_byte(full(), i, x);
-    show_first(name, &log);
+    show_first(name, &with_byte(full(), i, x));
 }
 
 // A log for each of its numbers.
@@ -274,26 +235,26 @@ fn refused_logs() {
 
 // The number of the full log on a case.
 fn of_full(c: Case, a: Asked) -> u64 {
-    let log = full();
-    number_asked(c, &log, a)
+    number_asked(c, &full(), a)
 }
 
 // 37 before 38, and 36 before both.
 fn several() {
-    let log = full();
-    show_first(b"the full log", &log);
-    line2(
+    show_first(b"the full log", &full());
+    line(
         b"the full log, both lists of 33, begins after ends; with a drift of 3601 too:",
-        of_full(Case::fresh(), late(33, 33, 0)),
-        of_full(Case::fresh(), late(33, 33, 3601)),
+        &[
+            of_full(Case::fresh(), late(33, 33, 0)),
+            of_full(Case::fresh(), late(33, 33, 3601)),
+        ],
     );
-    line1(
+    line(
         b"the full log, a drift of 3601 and begins after ends:",
-        of_full(Case::fresh(), late(32, 32, 3601)),
+        &[of_full(Case::fresh(), late(32, 32, 3601))],
     );
-    line1(
+    line(
         b"a loaded case, all of it beside 31 values:",
-        of_full(held(), short(1, 2, 3601)),
+        &[of_full(held(), short(1, 2, 3601))],
     );
 }
 
@@ -301,21 +262,17 @@ fn several() {
 
 // The times of 32 transactions, all different: from 100 to 200, from 101 to 201, and on, with a drift.
 fn staggered(drift: u32) -> Clock {
-    let mut out = none();
-    out.count = 32;
-    out.drift = drift;
-    for t in 0..32usize {
-        out.begin[t] = 100 + t as u32;
-        out.end[t] = 200 + t as u32;
+    Clock {
+        count: 32,
+        begin: array::from_fn(|t| 100 + (t % 32) as u32),
+        end: array::from_fn(|t| 200 + (t % 32) as u32),
+        drift,
     }
-    out
 }
 
 // The full log with these times.
 fn held() -> Case {
-    let log = full();
-    let zeros = [0u16; 32];
-    loaded_by(&log, &zeros, staggered(5))
+    loaded_by(&full(), &[0; 32], &staggered(5))
 }
 
 // A case put together outside that counts as fresh, and has times in it that Load would refuse.
@@ -335,14 +292,11 @@ fn used() -> Case {
 
 // The line of a load that must be refused: its number, and whether the case is as it was, the times in it too.
 fn refused(name: &[u8], c: Case, a: Asked) {
-    let log = full();
-    let answer = load_asked(c, &log, a);
-    let r = answer.reply;
-    let after = answer.case;
+    let answer = load_asked(c, &full(), a);
     text(name);
-    number(r.number() as u64);
+    number(number_of(answer.reply));
     text(b", the case as it was");
-    yes_no(same_case(c, after));
+    yes_no(c == answer.case);
     end();
 }
 
@@ -381,29 +335,16 @@ fn refusals() {
     refused(b"good times on a loaded one:", held(), lists(32, 32, 1));
 }
 
-// The case with one of its times changed: the begin and the end of transaction t, the count or the drift.
+// The case with one of its times changed: the begin and the end of transaction t.
 fn with_begin(c: Case, t: usize) -> Case {
-    let mut clock = c.clock;
-    clock.begin[t % 32] = 1;
     let mut out = c;
-    out.clock = clock;
+    out.clock.begin[t % 32] = 1;
     out
 }
 
 fn with_end(c: Case, t: usize) -> Case {
-    let mut clock = c.clock;
-    clock.end[t % 32] = 1;
     let mut out = c;
-    out.clock = clock;
-    out
-}
-
-fn with_count(c: Case, count: usize, drift: u32) -> Case {
-    let mut clock = c.clock;
-    clock.count = count;
-    clock.drift = drift;
-    let mut out = c;
-    out.clock = clock;
+    out.clock.end[t % 32] = 1;
     out
 }
 
@@ -411,17 +352,22 @@ fn with_count(c: Case, count: usize, drift: u32) -> Case {
 fn compared() {
     let c = held();
     text(b"a case is the same with another begin of 0, 31; end of 0, 31; count; drift; as it is:");
-    yes_no(same_case(c, with_begin(c, 0)));
-    yes_no(same_case(c, with_begin(c, 31)));
-    yes_no(same_case(c, with_end(c, 0)));
-    yes_no(same_case(c, with_end(c, 31)));
-    yes_no(same_case(c, with_count(c, 31, 5)));
-    yes_no(same_case(c, with_count(c, 32, 6)));
-    yes_no(same_case(c, with_count(c, 32, 5)));
+    let others = [
+        with_begin(c, 0),
+        with_begin(c, 31),
+        with_end(c, 0),
+        with_end(c, 31),
+        with_count(c, 31, 5),
+        with_count(c, 32, 6),
+        with_count(c, 32, 5),
+    ];
+    for other in others {
+        yes_no(c == other);
+    }
     end();
     text(b"after clear it is fresh, loaded with times; fresh with times in it:");
-    yes_no(same_case(c.clear(), Case::fresh()));
-    yes_no(same_case(used().clear(), Case::fresh()));
+    yes_no(c.clear() == Case::fresh());
+    yes_no(used().clear() == Case::fresh());
     end();
 }
 
@@ -431,21 +377,13 @@ fn compared() {
 // had before.
 fn stores(c: Case, clock: Clock) -> bool {
     let log = full();
-    let zeros = [0u16; 32];
-    let a = load_by(c, &log, &zeros, clock);
-    let r = a.reply;
-    let after = a.case;
-    let stored = after.clock;
-    r.number() == 0
-        && samples::clocks::same(stored, clock)
-        && same_case(after, loaded_by(&log, &zeros, clock))
+    let a = load_by(c, &log, &[0; 32], &clock);
+    a.reply.is_ok() && a.case.clock == clock && a.case == loaded_by(&log, &[0; 32], &clock)
 }
 
 // No times, with a drift.
 fn drift_alone(drift: u32) -> Clock {
-    let mut out = none();
-    out.drift = drift;
-    out
+    Clock { drift, ..none() }
 }
 
 // All at one second.
@@ -460,11 +398,16 @@ fn at_once(second: u32, drift: u32) -> Clock {
 
 fn show_stored(name: &[u8], c: Case) {
     text(name);
-    yes_no(stores(c, none()));
-    yes_no(stores(c, drift_alone(3600)));
-    yes_no(stores(c, at_once(0, 0)));
-    yes_no(stores(c, at_once(TOP, 3600)));
-    yes_no(stores(c, staggered(77)));
+    let clocks = [
+        none(),
+        drift_alone(3600),
+        at_once(0, 0),
+        at_once(TOP, 3600),
+        staggered(77),
+    ];
+    for clock in clocks {
+        yes_no(stores(c, clock));
+    }
     end();
 }
 

@@ -3,10 +3,10 @@
 #![tactic(auto)]
 
 use checker::Case;
-use samples::lines::{end, line1, line2, text, yes_no};
+use samples::lines::{end, line, text, yes_no};
 use samples::{
-    after_check, ascending, changed_number, check_first, check_number, full, load_first, load_from,
-    load_number, loaded, loaded_full, same_case, with_byte,
+    after_check, ascending, changed_number, check_number, first, full, load_from, load_number,
+    loaded, with_byte,
 };
 
 mod backs;
@@ -25,250 +25,310 @@ fn longest_and_one() -> u64 {
 // 1, 2, 3 and 35: the header and the length.
 fn header() {
     let log = full();
-    line1(
+    line(
         b"T 32, N 256, cabinet 15, key 31: load",
-        load_first(Case::fresh(), log, 1156),
+        &[load_number(Case::fresh(), &log)],
     );
-    line2(
+    line(
         b"0 and 3 bytes:",
-        load_number(Case::fresh(), b""),
-        load_number(Case::fresh(), b"\x00\x00\x00"),
+        &[
+            load_number(Case::fresh(), b""),
+            load_number(Case::fresh(), b"\x00\x00\x00"),
+        ],
     );
-    line2(
+    line(
         b"T 33, T 65535:",
-        load_number(Case::fresh(), b"\x21\x00\x00\x00"),
-        load_number(Case::fresh(), b"\xff\xff\x00\x00"),
+        &[
+            load_number(Case::fresh(), b"\x21\x00\x00\x00"),
+            load_number(Case::fresh(), b"\xff\xff\x00\x00"),
+        ],
     );
-    line2(
+    line(
         b"N 257, N 65535:",
-        load_number(Case::fresh(), b"\x00\x00\x01\x01"),
-        load_number(Case::fresh(), b"\x00\x00\xff\xff"),
+        &[
+            load_number(Case::fresh(), b"\x00\x00\x01\x01"),
+            load_number(Case::fresh(), b"\x00\x00\xff\xff"),
+        ],
     );
-    line2(
+    line(
         b"a byte too few, one too many:",
-        load_first(Case::fresh(), log, 1155),
-        load_number(Case::fresh(), b"\x00\x00\x00\x00\x00"),
+        &[
+            load_number(Case::fresh(), first(&log, 1155)),
+            load_number(Case::fresh(), b"\x00\x00\x00\x00\x00"),
+        ],
     );
-    line2(
+    line(
         b"a body too few, one too many:",
-        load_first(Case::fresh(), log, 1152),
-        changed_number(2, 255, 3, 0),
+        &[
+            load_number(Case::fresh(), first(&log, 1152)),
+            changed_number(2, 255, 3, 0),
+        ],
     );
-    line2(
+    line(
         b"the header alone, an entry too many:",
-        load_first(Case::fresh(), log, 4),
-        changed_number(0, 31, 0, 31),
+        &[
+            load_number(Case::fresh(), first(&log, 4)),
+            changed_number(0, 31, 0, 31),
+        ],
     );
-    line2(
+    line(
         b"T 32 and N 256 in 5 bytes, in 1157:",
-        load_first(Case::fresh(), log, 5),
-        longest_and_one(),
+        &[
+            load_number(Case::fresh(), first(&log, 5)),
+            longest_and_one(),
+        ],
     );
-    line1(
+    line(
         b"T 0, N 0: load",
-        load_number(Case::fresh(), b"\x00\x00\x00\x00"),
+        &[load_number(Case::fresh(), b"\x00\x00\x00\x00")],
     );
 }
 
 // 4, 5 and 6: the entries, at the first and the last.
 fn contents() {
-    line2(
+    line(
         b"cabinet 15 at entry 0, 31:",
-        changed_number(4, 15, 4, 15),
-        changed_number(128, 15, 128, 15),
+        &[
+            changed_number(4, 15, 4, 15),
+            changed_number(128, 15, 128, 15),
+        ],
     );
-    line2(
+    line(
         b"cabinet 16 at entry 0, 31:",
-        changed_number(4, 16, 4, 16),
-        changed_number(128, 16, 128, 16),
+        &[
+            changed_number(4, 16, 4, 16),
+            changed_number(128, 16, 128, 16),
+        ],
     );
-    line2(
+    line(
         b"cabinet 255 at entry 0, 31:",
-        changed_number(4, 255, 4, 255),
-        changed_number(128, 255, 128, 255),
+        &[
+            changed_number(4, 255, 4, 255),
+            changed_number(128, 255, 128, 255),
+        ],
     );
-    line2(
+    line(
         b"start one too high at entry 0, 31:",
-        changed_number(6, 1, 6, 1),
-        changed_number(130, 249, 130, 249),
+        &[
+            changed_number(6, 1, 6, 1),
+            changed_number(130, 249, 130, 249),
+        ],
     );
-    line2(
+    line(
         b"start 256 too high at entry 0, 31:",
-        changed_number(7, 1, 7, 1),
-        changed_number(131, 1, 131, 1),
+        &[changed_number(7, 1, 7, 1), changed_number(131, 1, 131, 1)],
     );
-    line2(
+    line(
         b"last count 7, 9:",
-        changed_number(129, 7, 129, 7),
-        changed_number(129, 9, 129, 9),
+        &[
+            changed_number(129, 7, 129, 7),
+            changed_number(129, 9, 129, 9),
+        ],
     );
 }
 
 // 7, 8 and 9: a body alone, at the first and the last.
 fn bodies() {
-    line2(
+    line(
         b"kind 2 at body 0, 255:",
-        changed_number(132, 2, 132, 2),
-        changed_number(1152, 2, 1152, 2),
+        &[
+            changed_number(132, 2, 132, 2),
+            changed_number(1152, 2, 1152, 2),
+        ],
     );
-    line2(
+    line(
         b"kind 255 at body 0, 255:",
-        changed_number(132, 255, 132, 255),
-        changed_number(1152, 255, 1152, 255),
+        &[
+            changed_number(132, 255, 132, 255),
+            changed_number(1152, 255, 1152, 255),
+        ],
     );
-    line2(
+    line(
         b"key 32 at body 0, 255:",
-        changed_number(133, 32, 133, 32),
-        changed_number(1153, 32, 1153, 32),
+        &[
+            changed_number(133, 32, 133, 32),
+            changed_number(1153, 32, 1153, 32),
+        ],
     );
-    line2(
+    line(
         b"key 255 at body 0, 255:",
-        changed_number(133, 255, 133, 255),
-        changed_number(1153, 255, 1153, 255),
+        &[
+            changed_number(133, 255, 133, 255),
+            changed_number(1153, 255, 1153, 255),
+        ],
     );
-    line2(
+    line(
         b"read of 31 at body 0, 254:",
-        changed_number(134, 31, 135, 0),
-        changed_number(1150, 31, 1151, 0),
+        &[
+            changed_number(134, 31, 135, 0),
+            changed_number(1150, 31, 1151, 0),
+        ],
     );
-    line2(
+    line(
         b"read of 32 at body 0, 254:",
-        changed_number(134, 32, 135, 0),
-        changed_number(1150, 32, 1151, 0),
+        &[
+            changed_number(134, 32, 135, 0),
+            changed_number(1150, 32, 1151, 0),
+        ],
     );
-    line2(
+    line(
         b"read of 65534 at body 0, 254:",
-        changed_number(134, 254, 135, 255),
-        changed_number(1150, 254, 1151, 255),
+        &[
+            changed_number(134, 254, 135, 255),
+            changed_number(1150, 254, 1151, 255),
+        ],
     );
-    line2(
+    line(
         b"read of 32 at body 255, a write:",
-        changed_number(1154, 32, 1155, 0),
-        changed_number(1154, 255, 1155, 255),
+        &[
+            changed_number(1154, 32, 1155, 0),
+            changed_number(1154, 255, 1155, 255),
+        ],
     );
 }
 
 // 10 and 34: a body and those before it in its transaction. The module `backs` has what stands behind a write.
 fn pairs() {
-    line2(
+    line(
         b"second read at body 1, 255:",
-        changed_number(136, 0, 136, 0),
-        changed_number(1152, 0, 1152, 0),
+        &[
+            changed_number(136, 0, 136, 0),
+            changed_number(1152, 0, 1152, 0),
+        ],
     );
-    line2(
+    line(
         b"second write at body 2, 254:",
-        changed_number(140, 1, 141, 0),
-        changed_number(1148, 1, 1149, 2),
+        &[
+            changed_number(140, 1, 141, 0),
+            changed_number(1148, 1, 1149, 2),
+        ],
     );
-    line2(
+    line(
         b"the same keys in the next transaction:",
-        changed_number(164, 0, 165, 0),
-        changed_number(168, 1, 169, 0),
+        &[
+            changed_number(164, 0, 165, 0),
+            changed_number(168, 1, 169, 0),
+        ],
     );
-    line2(
+    line(
         b"a read before the write that names its own transaction, at body 0, 254:",
-        changed_number(134, 0, 135, 0),
-        changed_number(1150, 31, 1151, 0),
+        &[
+            changed_number(134, 0, 135, 0),
+            changed_number(1150, 31, 1151, 0),
+        ],
     );
 }
 
 // Logs with several faults: the number that comes first.
 fn several() {
-    line2(
+    line(
         b"start of entry 0, cabinet of entry 31; both of entry 0:",
-        changed_number(6, 1, 128, 16),
-        changed_number(4, 16, 6, 1),
+        &[changed_number(6, 1, 128, 16), changed_number(4, 16, 6, 1)],
     );
-    line2(
+    line(
         b"last count, kind of body 0; cabinet of entry 31, kind of body 0:",
-        changed_number(129, 7, 132, 2),
-        changed_number(128, 16, 132, 2),
+        &[
+            changed_number(129, 7, 132, 2),
+            changed_number(128, 16, 132, 2),
+        ],
     );
-    line2(
+    line(
         b"kind and key of body 0; key of body 0, kind of body 1:",
-        changed_number(132, 2, 133, 32),
-        changed_number(133, 32, 136, 2),
+        &[
+            changed_number(132, 2, 133, 32),
+            changed_number(133, 32, 136, 2),
+        ],
     );
-    line2(
+    line(
         b"argument of body 0, second read at body 1; the other way round:",
-        changed_number(134, 32, 136, 0),
-        changed_number(136, 0, 142, 32),
+        &[
+            changed_number(134, 32, 136, 0),
+            changed_number(136, 0, 142, 32),
+        ],
     );
-    line2(
+    line(
         b"T 33 and too short; T 33 and too long:",
-        changed_number(0, 33, 0, 33),
-        changed_number(0, 33, 3, 0),
+        &[changed_number(0, 33, 0, 33), changed_number(0, 33, 3, 0)],
     );
-    line2(
+    line(
         b"N 257 and a byte too few; N 257 and cabinet 16:",
-        load_first(Case::fresh(), with_byte(full(), 2, 1), 1155),
-        changed_number(2, 1, 4, 16),
+        &[
+            load_number(Case::fresh(), first(&with_byte(full(), 2, 1), 1155)),
+            changed_number(2, 1, 4, 16),
+        ],
     );
-    line2(
+    line(
         b"cabinet 16 and a byte too few; cabinet 16 and an entry too many:",
-        load_first(Case::fresh(), with_byte(full(), 4, 16), 1155),
-        changed_number(0, 31, 4, 16),
+        &[
+            load_number(Case::fresh(), first(&with_byte(full(), 4, 16), 1155)),
+            changed_number(0, 31, 4, 16),
+        ],
     );
 }
 
 // 21 and 22: the state comes before the input, and a refusal changes nothing.
 fn state() {
     let log = full();
-    let held = loaded_full();
-    line2(
+    let held = loaded(&full());
+    line(
         b"load on a loaded case, the same log; 3 bytes:",
-        load_first(held, log, 1156),
-        load_number(held, b"\x00\x00\x00"),
+        &[load_number(held, &log), load_number(held, b"\x00\x00\x00")],
     );
-    line2(
+    line(
         b"check on a fresh case, no numbers; one:",
-        check_number(Case::fresh(), b""),
-        check_number(Case::fresh(), b"\x00"),
+        &[
+            check_number(Case::fresh(), b""),
+            check_number(Case::fresh(), b"\x00"),
+        ],
     );
-    let zeros = [0u16; 32];
-    let again = load_from(held, b"\x00\x00\x00", &zeros);
-    let after = again.case;
-    let wrong = load_from(Case::fresh(), b"\x00\x00\x00", &zeros);
-    let blank = wrong.case;
     text(b"after a refusal the case is as it was, loaded; fresh:");
-    yes_no(same_case(held, after));
-    yes_no(same_case(Case::fresh(), blank));
+    for c in [held, Case::fresh()] {
+        yes_no(c == load_from(c, b"\x00\x00\x00", &[0; 32]).case);
+    }
     end();
     text(b"after clear it is fresh, loaded; fresh:");
-    yes_no(same_case(held.clear(), Case::fresh()));
-    yes_no(same_case(Case::fresh().clear(), Case::fresh()));
+    yes_no(held.clear() == Case::fresh());
+    yes_no(Case::fresh().clear() == Case::fresh());
     end();
 }
 
 // 13: proposed orders of the full log. 101 stands for an order that is not legal.
 fn proposed() {
-    let held = loaded_full();
+    let held = loaded(&full());
     let up = ascending();
     let low = with_byte(ascending(), 0, 31);
     let high = with_byte(ascending(), 31, 32);
     let twice = with_byte(ascending(), 31, 0);
-    line2(
+    line(
         b"31 and 33 numbers:",
-        check_first(held, up, 31),
-        check_first(held, up, 33),
+        &[
+            check_number(held, first(&up, 31)),
+            check_number(held, first(&up, 33)),
+        ],
     );
-    line2(
+    line(
         b"twice at place 0, 31:",
-        check_first(held, low, 32),
-        check_first(held, twice, 32),
+        &[
+            check_number(held, first(&low, 32)),
+            check_number(held, first(&twice, 32)),
+        ],
     );
-    line2(
+    line(
         b"32 at place 31; 0 to 31:",
-        check_first(held, high, 32),
-        check_first(held, up, 32),
+        &[
+            check_number(held, first(&high, 32)),
+            check_number(held, first(&up, 32)),
+        ],
     );
-    line2(
+    line(
         b"T 0: no number; one:",
-        check_number(loaded(b"\x00\x00\x00\x00"), b""),
-        check_number(loaded(b"\x00\x00\x00\x00"), b"\x00"),
+        &[
+            check_number(loaded(b"\x00\x00\x00\x00"), b""),
+            check_number(loaded(b"\x00\x00\x00\x00"), b"\x00"),
+        ],
     );
     text(b"after check the case is as it was:");
-    yes_no(same_case(held, after_check(held, high)));
+    yes_no(held == after_check(held, &high));
     end();
 }
 

@@ -1,22 +1,19 @@
 // What the clock lets Check take. 100 stands for a legal order, 101 for one that is not.
 use checker::{Case, Clock};
 use samples::clocks::loaded_by;
-use samples::lines::{end, line2, text, yes_no};
-use samples::{
-    after_check, ascending, check_first, check_number, full_backed, loaded_at, same_case,
-};
+use samples::lines::{end, line, text, yes_no};
+use samples::{after_check, ascending, check_number, first, full_backed, loaded_at};
+use std::array;
 
 // The highest second.
 const TOP: u32 = 4294967295;
 
 // What Check says of 0 1 and of 1 0, of a log of two transactions with these begins and ends.
 fn show_log(name: &[u8], log: &[u8], begin: [u32; 2], end: [u32; 2], drift: u32) {
-    let zeros = [0u16; 32];
-    let c = loaded_at(log, &zeros, &begin, &end, drift);
-    line2(
+    let c = loaded_at(log, &[0; 32], &begin, &end, drift);
+    line(
         name,
-        check_number(c, b"\x00\x01"),
-        check_number(c, b"\x01\x00"),
+        &[check_number(c, b"\x00\x01"), check_number(c, b"\x01\x00")],
     );
 }
 
@@ -164,17 +161,12 @@ fn beside() {
 
 // Transaction t from second 10 * t to 10 * t + 5.
 fn in_turn() -> Clock {
-    let mut out = Clock {
+    Clock {
         count: 32,
-        begin: [0; 32],
-        end: [0; 32],
+        begin: array::from_fn(|t| 10 * (t % 32) as u32),
+        end: array::from_fn(|t| 10 * (t % 32) as u32 + 5),
         drift: 0,
-    };
-    for t in 0..32usize {
-        out.begin[t] = 10 * (t as u32);
-        out.end[t] = 10 * (t as u32) + 5;
     }
-    out
 }
 
 // The same with transaction t moved to a second.
@@ -200,45 +192,38 @@ fn apart(second: u32) -> Clock {
 
 // The full log with read-backs, of which 0 to 31 is a legal order, with these times.
 fn held(clock: Clock) -> Case {
-    let log = full_backed();
-    let zeros = [0u16; 32];
-    loaded_by(&log, &zeros, clock)
+    loaded_by(&full_backed(), &[0; 32], &clock)
 }
 
 // What Check says of 0 to 31.
 fn of_all(clock: Clock) -> u64 {
-    check_first(held(clock), ascending(), 32)
+    check_number(held(clock), first(&ascending(), 32))
 }
 
 fn many() {
-    line2(
+    line(
         b"T 32, check of 0 to 31: in turn; 31 at second 4294967295:",
-        of_all(in_turn()),
-        of_all(moved(31, TOP)),
+        &[of_all(in_turn()), of_all(moved(31, TOP))],
     );
-    line2(
+    line(
         b"1 at second 0; 0 at second 15:",
-        of_all(moved(1, 0)),
-        of_all(moved(0, 15)),
+        &[of_all(moved(1, 0)), of_all(moved(0, 15))],
     );
-    line2(
+    line(
         b"0 at second 16; 31 at second 300:",
-        of_all(moved(0, 16)),
-        of_all(moved(31, 300)),
+        &[of_all(moved(0, 16)), of_all(moved(31, 300))],
     );
-    line2(
+    line(
         b"31 at second 299; 31 at second 0:",
-        of_all(moved(31, 299)),
-        of_all(moved(31, 0)),
+        &[of_all(moved(31, 299)), of_all(moved(31, 0))],
     );
-    line2(
+    line(
         b"all from 0 to 1000, but 0 from 500, 31 to 500; 31 to 499:",
-        of_all(apart(500)),
-        of_all(apart(499)),
+        &[of_all(apart(500)), of_all(apart(499))],
     );
     let c = held(in_turn());
     text(b"after check the case is as it was, with times:");
-    yes_no(same_case(c, after_check(c, ascending())));
+    yes_no(c == after_check(c, &ascending()));
     end();
 }
 

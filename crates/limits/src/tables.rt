@@ -1,40 +1,26 @@
 // The starting table: 36 at each length that isn't 32, before every number of the log and behind 21; that a refusal leaves the table in the case; and what
 // Load stores.
-use checker::{Answer, Case, Reply, Stage};
+use checker::{Case, Stage};
+use refusals::number_of;
 use samples::clocks::none;
 use samples::lines::{end, number, text, yes_no};
-use samples::tables::{levels, same};
-use samples::{full, load_from, loaded_from, same_case, with_byte};
+use samples::tables::levels;
+use samples::{first, full, load_from, load_number_from, loaded_from, with_byte};
 
 // ---- the number
 
-// Load beside the first n values of a list. 255, which no call gives, where it has fewer.
-fn load_beside(c: Case, log: &[u8], values: &[u16], n: usize) -> Answer {
-    if n > values.len() {
-        return Answer {
-            case: c,
-            reply: Reply::Refused(255),
-        };
-    }
-    load_from(c, log, &values[0..n])
-}
-
-// Its number beside n nines.
+// The number of Load beside n nines, of which there are at most 33.
 fn beside(c: Case, log: &[u8], n: usize) -> u64 {
-    let nines = [9u16; 33];
-    let a = load_beside(c, log, &nines, n);
-    let r = a.reply;
-    r.number() as u64
+    load_number_from(c, log, first(&[9u16; 33], n))
 }
 
 // The line of a log on a case.
 fn show_on(c: Case, name: &[u8], log: &[u8]) {
     text(name);
     text(b", beside 0, 31, 33 and 32 values:");
-    number(beside(c, log, 0));
-    number(beside(c, log, 31));
-    number(beside(c, log, 33));
-    number(beside(c, log, 32));
+    for n in [0, 31, 33, 32] {
+        number(beside(c, log, n));
+    }
     end();
 }
 
@@ -44,8 +30,7 @@ fn show(name: &[u8], log: &[u8]) {
 
 // The line of the full log with x at place i.
 fn show_changed(name: &[u8], i: usize, x: u8) {
-    let log = with_byte(full(), i, x);
-    show(name, &log);
+    show(name, &with_byte(full(), i, x));
 }
 
 // Logs that Load takes, and one for each number of the header and the length.
@@ -84,22 +69,19 @@ fn contents() {
 
 // A case put together outside that counts as fresh, and has a log, a table of sevens and an order in it.
 fn used() -> Case {
-    let clock = none();
     Case {
         stage: Stage::Fresh,
         bytes: full(),
         length: 1156,
         starting: [7; 32],
-        clock,
+        clock: none(),
         order: [3; 32],
     }
 }
 
 // The full log beside levels that are not zeros.
 fn held() -> Case {
-    let log = full();
-    let values = levels();
-    loaded_from(&log, &values)
+    loaded_from(&full(), &levels())
 }
 
 // The case with another level of a key.
@@ -112,40 +94,32 @@ fn with_level(c: Case, key: usize, x: u16) -> Case {
 // The line of a load that must be refused: its number, and whether the case is as it was, the table in it too.
 fn refused(name: &[u8], c: Case, log: &[u8], values: &[u16]) {
     let a = load_from(c, log, values);
-    let r = a.reply;
-    let after = a.case;
     text(name);
-    number(r.number() as u64);
+    number(number_of(a.reply));
     text(b", the case as it was");
-    yes_no(same_case(c, after));
+    yes_no(c == a.case);
     end();
-}
-
-// The full log beside the first n of 33 values.
-fn refuse_values(name: &[u8], c: Case, n: usize) {
-    if n > 33 {
-        return;
-    }
-    let log = full();
-    let nines = [9u16; 33];
-    refused(name, c, &log, &nines[0..n]);
 }
 
 // 3 bytes beside 32 levels.
 fn refuse_bytes(name: &[u8], c: Case) {
-    let good = levels();
-    refused(name, c, b"\x00\x00\x00", &good);
+    refused(name, c, b"\x00\x00\x00", &levels());
 }
 
 fn refusals() {
     let log = full();
     show_on(held(), b"a loaded case, the full log", &log);
     show_on(held(), b"a loaded case, 3 bytes", b"\x00\x00\x00");
-    refuse_values(b"0 values on a fresh case with sevens in it:", used(), 0);
-    refuse_values(b"31 values on it:", used(), 31);
-    refuse_values(b"33 values on it:", used(), 33);
-    refuse_values(b"33 values on a fresh case:", Case::fresh(), 33);
-    refuse_values(b"33 values on a loaded one:", held(), 33);
+    refused(
+        b"0 values on a fresh case with sevens in it:",
+        used(),
+        &log,
+        &[9; 0],
+    );
+    refused(b"31 values on it:", used(), &log, &[9; 31]);
+    refused(b"33 values on it:", used(), &log, &[9; 33]);
+    refused(b"33 values on a fresh case:", Case::fresh(), &log, &[9; 33]);
+    refused(b"33 values on a loaded one:", held(), &log, &[9; 33]);
     refuse_bytes(b"3 bytes beside 32 levels on a fresh case:", Case::fresh());
     refuse_bytes(b"the same on one with sevens in it:", used());
 }
@@ -153,12 +127,12 @@ fn refusals() {
 // A case with another table is another case, and clear leaves none.
 fn compared() {
     text(b"a case is the same with another level of key 0; of key 31:");
-    yes_no(same_case(held(), with_level(held(), 0, 1)));
-    yes_no(same_case(held(), with_level(held(), 31, 1)));
+    yes_no(held() == with_level(held(), 0, 1));
+    yes_no(held() == with_level(held(), 31, 1));
     end();
     text(b"after clear it is fresh, loaded beside levels; fresh with sevens in it:");
-    yes_no(same_case(held().clear(), Case::fresh()));
-    yes_no(same_case(used().clear(), Case::fresh()));
+    yes_no(held().clear() == Case::fresh());
+    yes_no(used().clear() == Case::fresh());
     end();
 }
 
@@ -168,17 +142,14 @@ fn compared() {
 fn stores(c: Case, values: [u16; 32]) -> bool {
     let log = full();
     let a = load_from(c, &log, &values);
-    let r = a.reply;
-    let after = a.case;
-    let stored = after.starting;
-    r.number() == 0 && same(stored, values) && same_case(after, loaded_from(&log, &values))
+    a.reply.is_ok() && a.case.starting == values && a.case == loaded_from(&log, &values)
 }
 
 fn show_stored(name: &[u8], c: Case) {
     text(name);
-    yes_no(stores(c, [0; 32]));
-    yes_no(stores(c, [65535; 32]));
-    yes_no(stores(c, levels()));
+    for values in [[0; 32], [65535; 32], levels()] {
+        yes_no(stores(c, values));
+    }
     end();
 }
 

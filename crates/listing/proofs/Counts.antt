@@ -9,7 +9,7 @@ use Rattle.listing.specs.Choosing.{Chose}
 abbrev pub Grew : ℕ → ℕ → Type 0
 Grew from r = (from ≤ r) × (r ≤ 4096)
 
--- What `choose`, `pairs`, `key`, `rows` and the two `table`s promise of the numbers that they list, where those have the room that each of them asks for. That there is
+-- What `choose`, `pairs`, `Runs::list`, `rows` and the two `table`s promise of the numbers that they list, where those have the room that each of them asks for. That there is
 -- room is shown by who calls: `row_room`, `going_room`, `keys_room`, `numbers_room`, `bodies_room`; for all of a log `runs_room` and `plain_room`.
 pub counts : (cs : List ℕ) (from r : ℕ) (ks ls : List ℕ) → from + length cs ≤ 4096 → Chose cs from ks r ls → Grew from r
 counts cs from r ks ls room c = (omega (arith, c.count), omega (arith, c.count))

@@ -1,14 +1,14 @@
 -- The list of the first n numbers' constraints, one after another. Assumes nothing.
 --     items_none, items_next, items_length      of no number, of one more; how many.        items_take      of numbers that are known.        items_aimed
---     Upto             what is known once i are written: of the list l so far.        upto_none, upto_next, upto_all
+--     upto_none, upto_next, upto_all      a loop that writes them
 use mathlib.Core.Path.{◌≡◌, refl, sym, ◌∙◌, ap, subst}
 use mathlib.Core.Bool.{Bool, true, false}
 use lib.Dec.{eqb}
 use Prim.Native.Nat.{ℕ, zero, suc, ◌+◌, ◌<◌, ◌≤◌}
 use native.Mathlib.Numerals.{add-one}
 use native.Mathlib.Omega.{arith}
-use mathlib.Core.List.{List, [], ◌∷◌, ◌++◌, map, append_assoc}
-use lib.ListN.{length, set, get_or, take, drop, length-set}
+use mathlib.Core.List.{List, [], ◌∷◌, ◌++◌, map, append_assoc, append-nil}
+use lib.ListN.{length, set, get_or, take, drop, drop_of_length-le}
 use lib.Seq.{drop-cons, set_at, take-suc}
 use Rattle.model.specs.Lists.{up_to}
 use Rattle.model.specs.declared.Constraint.{Constraint}
@@ -52,24 +52,21 @@ module _ (t ks : List ℕ) where
   items_aimed n k l =
       subst (λ (x : Constraint). (x.toA < 32) × (x.toB < 32)) (sym (get_or_up_to (λ i. item_by t (get_or ks i 0)) no_constraint n k l)) (item_aimed t (get_or ks k 0))
 
-  -- ---- written to a list
-
-  pub record Upto (ys : List Constraint) (i : ℕ) (l : List Constraint) : Type 0 where
-    pub len : length l ≡ length ys
-    pub list : l ≡ items_by t ks i ++ drop i ys
+  -- ---- written to places ys, one after another
 
   module _ (ys : List Constraint) where
-    pub upto_none : Upto ys 0 ys
-    upto_none = record { len = refl; list = sym (ap (λ x. x ++ ys) items_none) }
+    pub upto_none : ys ≡ items_by t ks 0 ++ ys
+    upto_none = sym (ap (λ x. x ++ ys) items_none)
 
-    pub upto_next : (i : ℕ) (l : List Constraint) (v : Constraint) → i < length ys → Upto ys i l → v ≡ item_by t (get_or ks i 0) → Upto ys (i + 1) (set l i v)
-    upto_next i l v h u e = record {
-      len = length-set l i v ∙ u.len;
-      list = ap (λ (k : List Constraint). set k i v) (u.list ∙ ap (λ (k : List Constraint). items_by t ks i ++ k) (drop-cons ys i no_constraint h))
-          ∙ set_at (items_by t ks i) (get_or ys i no_constraint) (drop (suc i) ys) v i (items_length i) ∙ ap (λ (w : Constraint). items_by t ks i ++ (w ∷ drop (suc i) ys)) e
-          ∙ sym (append_assoc (items_by t ks i) (item_by t (get_or ks i 0) ∷ []) (drop (suc i) ys)) ∙ ap (λ x. x ++ drop (suc i) ys) (sym (items_next i))
-          ∙ ap (λ n. items_by t ks n ++ drop n ys) (sym (add-one i));
-    }
+    pub upto_next : (i : ℕ) (l : List Constraint) (v : Constraint) → i < length ys → l ≡ items_by t ks i ++ drop i ys → v ≡ item_by t (get_or ks i 0)
+        → set l i v ≡ items_by t ks (i + 1) ++ drop (i + 1) ys
+    upto_next i l v h u e =
+        ap (λ (k : List Constraint). set k i v) (u ∙ ap (λ (k : List Constraint). items_by t ks i ++ k) (drop-cons ys i no_constraint h))
+        ∙ set_at (items_by t ks i) (get_or ys i no_constraint) (drop (suc i) ys) v i (items_length i) ∙ ap (λ (w : Constraint). items_by t ks i ++ (w ∷ drop (suc i) ys)) e
+        ∙ sym (append_assoc (items_by t ks i) (item_by t (get_or ks i 0) ∷ []) (drop (suc i) ys)) ∙ ap (λ x. x ++ drop (suc i) ys) (sym (items_next i))
+        ∙ ap (λ n. items_by t ks n ++ drop n ys) (sym (add-one i))
 
-    pub upto_all : (i n : ℕ) (l : List Constraint) → i ≡ n → Upto ys i l → l ≡ items_by t ks n ++ drop n ys
-    upto_all i n l e u = u.list ∙ ap (λ k. items_by t ks k ++ drop k ys) e
+    -- n places have the first n constraints
+    pub upto_all : (i n : ℕ) (l : List Constraint) → i ≡ n → length ys ≡ n → l ≡ items_by t ks i ++ drop i ys → l ≡ items_by t ks n
+    upto_all i n l e h u =
+        u ∙ ap (λ k. items_by t ks k ++ drop k ys) e ∙ ap (λ x. items_by t ks n ++ x) (drop_of_length-le ys {i = n} (omega arith)) ∙ append-nil (items_by t ks n)

@@ -25,6 +25,7 @@ const ENCODING: usize = 1024;
 pub const PLACES: usize = 4096;
 
 // The readers without x or, where there are none, w alone.
+#[tactic(auto, using(graph::proofs::Rows::one_shl), unfolding(crate::specs::Candidates::ends_by))]
 fn ends(readers: u32, w: u32, x: u32) -> u32
     requires { (w < 32) × (x < 32) }
     ensures { result ≡ ends_by readers w x }
@@ -34,6 +35,7 @@ fn ends(readers: u32, w: u32, x: u32) -> u32
 }
 
 // Encoding 1: the constraint of candidate c, where the words have readers.
+#[tactic(auto, unfolding(crate::specs::Candidates::pair_item))]
 fn pair_item(tables: &[u32; WORDS], c: usize) -> Constraint
     ensures { result ≡ pair_item tables.now c }
 {
@@ -51,6 +53,7 @@ fn pair_item(tables: &[u32; WORDS], c: usize) -> Constraint
 }
 
 // Encoding 2: the constraint of candidate c, where the words have sources.
+#[tactic(auto, unfolding(crate::specs::Candidates::chain_item))]
 fn chain_item(tables: &[u32; WORDS], c: usize) -> Constraint
     ensures { result ≡ chain_item tables.now c }
 {
@@ -65,6 +68,7 @@ fn chain_item(tables: &[u32; WORDS], c: usize) -> Constraint
 }
 
 // Encoding 0: the constraint of candidate c, where a word has two transactions.
+#[tactic(auto, using(graph::proofs::Rows::one_shl), unfolding(crate::specs::Candidates::plain_item))]
 fn plain_item(tables: &[u32; WORDS], c: usize) -> Constraint
     ensures { result ≡ plain_item tables.now c }
 {
@@ -79,24 +83,15 @@ fn plain_item(tables: &[u32; WORDS], c: usize) -> Constraint
 }
 
 // The constraint of candidate c, in any encoding.
+#[tactic(auto, unfolding(crate::specs::Candidates::item_by))]
 fn item(tables: &[u32; WORDS], c: usize) -> Constraint
     ensures { result ≡ item_by tables.now c }
 {
-    let encoding = tables[ENCODING];
-    if encoding == 2 {
-        return chain_item(tables, c);
+    match tables[ENCODING] {
+        2 => chain_item(tables, c),
+        0 => plain_item(tables, c),
+        _ => pair_item(tables, c),
     }
-    if encoding == 0 {
-        plain_item(tables, c)
-    } else {
-        pair_item(tables, c)
-    }
-}
-
-fn wide(c: u16) -> usize
-    ensures { result ≡ c }
-{
-    c as usize
 }
 
 // The constraint of the i-th number.
@@ -104,7 +99,7 @@ pub fn nth<'a>(tables: &'a [u32; WORDS], chosen: &'a [u16; PLACES], i: usize) ->
     requires { i < 4096 }
     ensures { result ≡ item_by tables.now (get_or chosen.now i 0) }
 {
-    item(tables, wide(chosen[i]))
+    item(tables, usize::from(chosen[i]))
 }
 
 // The candidates of a row, lowest first, after `from` others: how many there are then.
@@ -115,7 +110,7 @@ fn choose(columns: u32, row: usize, from: u16, chosen: &mut [u16; PLACES]) -> u1
     let mut n = from;
     let mut m = columns;
     while m != 0 {
-        chosen[n as usize] = (row * 32 + u32::trailing_zeros(m) as usize) as u16;
+        chosen[usize::from(n)] = (row * 32 + m.trailing_zeros() as usize) as u16;
         n += 1;
         m = clear_low(m);
     }
@@ -132,9 +127,7 @@ pub fn list<'a, 'b>(
     requires { (n ≤ 4096) × (n ≤ length out.old) }
     ensures { out.new ≡ items_by tables.now chosen.now n ++ drop n out.old }
 {
-    let mut i: usize = 0;
-    while i < n as usize {
-        out[i] = nth(tables, chosen, i);
-        i += 1;
+    for (i, place) in out[..usize::from(n)].iter_mut().enumerate() {
+        *place = nth(tables, chosen, i);
     }
 }

@@ -3,14 +3,16 @@
 // direct listing knows nothing. Then the same with times.
 #![tactic(auto)]
 
-use checker::{Case, Clock, Encoding, Reply};
+use checker::{Case, Clock, Refusal};
 use direct::Polygraph;
-use samples::clocks::{loaded_by, none};
+use samples::clocks::{loaded_by, none, of_times, times_of, with_count};
 use samples::lines::{end, number, text};
+use samples::loaded;
 use samples::tables::drawn;
-use samples::{loaded, same_case};
+use samples::tallies::{add, add_if};
 use trial::log::Bytes;
 use trial::times::Times;
+use trial::{KINDS, Kind};
 use windows::{Form, Shape};
 
 mod windows;
@@ -33,10 +35,10 @@ pub struct Lent {
     pub mark: u32,
 }
 
-// What Encode gives and leaves: its number, its count, whether the case is as it was, and the 40 words that it was lent some of.
+// What Encode gives and leaves: its reply, its count, whether the case is as it was, and the 40 words that it was lent some of.
 #[derive(Clone, Copy)]
 pub struct Seen {
-    pub number: u64,
+    pub reply: Result<(), Refusal>,
     pub left: usize,
     pub kept: bool,
     pub rows: [u32; 40],
@@ -44,7 +46,7 @@ pub struct Seen {
 
 // The logs with a read-back; those with times, and those of them where the clock gives an edge; the polygraphs, their constraints and those left; those that
 // are not as the direct listing has them; and the refusals.
-#[derive(Clone, Copy)]
+#[derive(Clone, Copy, Default)]
 pub struct Tally {
     pub backs: u64,
     pub timed: u64,
@@ -59,48 +61,22 @@ pub struct Tally {
 
 // ---- the call
 
-// For lists that cannot be lent: a number that no call gives.
-fn not_called(c: Case) -> Encoding {
-    Encoding {
-        case: c,
-        reply: Reply::Refused(255),
-        left: 0,
-    }
-}
-
 // Encode with the first of the row words.
-fn encode_with(c: Case, l: Lent, rows: &mut [u32], out: &mut [u32]) -> Encoding {
-    let words = l.words;
-    let places = l.places;
-    if words > rows.len() {
-        return not_called(c);
-    }
-    if places > 4096 {
-        return not_called(c);
-    }
-    if out.len() < 16384 {
-        return not_called(c);
-    }
-    lists::encode(
+fn encoded(c: Case, l: Lent, out: &mut [u32; 16384]) -> Seen {
+    let mut rows = [WORD; 40];
+    let e = lists::encode(
         c,
         l.encoding,
         l.pruning,
-        places,
+        l.places.min(4096),
         lists::marked(l.mark),
-        &mut rows[0..words],
+        &mut rows[..l.words.min(40)],
         out,
-    )
-}
-
-fn encoded(c: Case, l: Lent, out: &mut [u32]) -> Seen {
-    let mut rows = [WORD; 40];
-    let e = encode_with(c, l, &mut rows, out);
-    let r = e.reply;
-    let after = e.case;
+    );
     Seen {
-        number: r.number() as u64,
+        reply: e.reply,
         left: e.left,
-        kept: same_case(c, after),
+        kept: c == e.case,
         rows,
     }
 }
@@ -108,226 +84,131 @@ fn encoded(c: Case, l: Lent, out: &mut [u32]) -> Seen {
 // ---- the comparison
 
 // Whether the row words are those that are expected, and the further ones as they were.
-fn same_rows(seen: [u32; 40], rows: [u32; 32], further: u32) -> bool {
-    for i in 0..40usize {
-        let expected = if i < 32 { rows[i] } else { further };
-        if seen[i] != expected {
-            return false;
-        }
-    }
-    true
+fn same_rows(seen: &[u32; 40], rows: &[u32; 32]) -> bool {
+    seen[..32] == rows[..] && seen[32..].iter().all(|word| *word == WORD)
+}
+
+// Whether the words of so many places are the same.
+fn same_places(a: &[u32; 16384], b: &[u32; 16384], places: usize) -> bool {
+    let n = 4 * places.min(4096);
+    a[..n] == b[..n]
 }
 
 // Whether Encode writes what is expected to lists that are long enough.
-fn agrees(c: Case, l: Lent, p: Polygraph, list: &[u32; 16384]) -> bool {
+fn agrees(c: Case, l: Lent, p: &Polygraph, list: &[u32; 16384]) -> bool {
     let mut out = [0u32; 16384];
     let s = encoded(c, l, &mut out);
-    let seen = s.rows;
-    let rows = p.rows;
-    s.number == 0
+    s.reply.is_ok()
         && s.left == p.left
         && s.kept
-        && same_rows(seen, rows, WORD)
-        && lists::same_words(&out, list, 4 * (l.places % 4097))
+        && same_rows(&s.rows, &p.rows)
+        && same_places(&out, list, l.places)
 }
 
-// Whether Encode refuses with the number, and leaves all as it was.
-fn refuses(c: Case, l: Lent, expected: u64) -> bool {
-    let blank = [l.mark; 16384];
+// Whether Encode gives this refusal, and leaves all as it was.
+fn refuses(c: Case, l: Lent, refusal: Refusal) -> bool {
     let mut out = [0u32; 16384];
     let s = encoded(c, l, &mut out);
-    let seen = s.rows;
-    s.number == expected
+    s.reply == Err(refusal)
         && s.left == 0
         && s.kept
-        && same_rows(seen, [WORD; 32], WORD)
-        && lists::same_words(&out, &blank, 4 * (l.places % 4097))
+        && same_rows(&s.rows, &[WORD; 32])
+        && same_places(&out, &[l.mark; 16384], l.places)
+}
+
+// Whether the clock gives an edge.
+fn gives_edge(x: &Clock) -> bool {
+    let mut rows = [0u32; 32];
+    direct::edges::add_clock(&mut rows, &times_of(x), x.count);
+    rows != [0; 32]
 }
 
 // ---- the histories
 
-// The same setting with other lists.
-fn with_lists(l: Lent, places: usize, words: usize) -> Lent {
-    Lent {
-        encoding: l.encoding,
-        pruning: l.pruning,
-        places,
-        words,
-        mark: l.mark,
+impl Tally {
+    // A call that must be refused so.
+    fn add_refusal(&mut self, c: Case, l: Lent, refusal: Refusal) {
+        let yes = refuses(c, l, refusal);
+        add_if(&mut self.refused, yes);
+        add_if(&mut self.otherwise, !yes);
     }
-}
 
-fn more(n: u64, by: u64) -> u64 {
-    n % 1000000000 + by % 1000000
-}
-
-fn one(yes: bool) -> u64 {
-    if yes { 1 } else { 0 }
-}
-
-// Lists that are exactly long enough, and longer ones.
-fn with_polygraph(t: Tally, c: Case, l: Lent, p: Polygraph, list: &[u32; 16384]) -> Tally {
-    let exact = agrees(c, with_lists(l, p.count, 32), p, list);
-    let longer = agrees(c, with_lists(l, p.count % 4094 + 2, 40), p, list);
-    let mut out = t;
-    out.polygraphs = more(t.polygraphs, 1);
-    out.constraints = more(t.constraints, p.count as u64);
-    out.left = more(t.left, p.left as u64);
-    out.different = more(more(t.different, one(!exact)), one(!longer));
-    out
-}
-
-// Lists that are too short: by a row word, and by a place.
-fn with_refusals(t: Tally, c: Case, l: Lent, p: Polygraph) -> Tally {
-    let rows = refuses(c, with_lists(l, p.count, 31), 25);
-    let mut out = t;
-    out.refused = more(t.refused, one(rows));
-    out.otherwise = more(t.otherwise, one(!rows));
-    if p.count == 0 {
-        return out;
+    // A polygraph, with lists that are exactly long enough, and longer ones; and lists that are too short, by a row word and by a place.
+    fn add_polygraph(&mut self, c: Case, l: Lent, p: &Polygraph, list: &[u32; 16384]) {
+        let exact = Lent {
+            places: p.count,
+            words: 32,
+            ..l
+        };
+        let longer = Lent {
+            places: p.count.saturating_add(2),
+            words: 40,
+            ..l
+        };
+        add(&mut self.polygraphs, 1);
+        add(&mut self.constraints, p.count as u64);
+        add(&mut self.left, p.left as u64);
+        add_if(&mut self.different, !agrees(c, exact, p, list));
+        add_if(&mut self.different, !agrees(c, longer, p, list));
+        self.add_refusal(c, Lent { words: 31, ..exact }, Refusal::TooFewPlaces);
+        if let Some(places) = p.count.checked_sub(1) {
+            self.add_refusal(c, Lent { places, ..exact }, Refusal::TooFewPlaces);
+        }
     }
-    let place = refuses(c, with_lists(l, p.count - 1, 32), 25);
-    out.refused = more(out.refused, one(place));
-    out.otherwise = more(out.otherwise, one(!place));
-    out
-}
 
-// The times of a log for the direct listing.
-fn times_of(x: Clock) -> direct::Times {
-    let begin = x.begin;
-    let end = x.end;
-    direct::Times {
-        timed: x.count > 0,
-        begin,
-        end,
-        drift: x.drift,
+    // A setting of a log, beside random table n and with times.
+    fn add_setting(&mut self, log: &[u8], n: u64, clock: &Clock, l: Lent) {
+        let mut list = [l.mark; 16384];
+        let p = direct::encoded(log, &times_of(clock), l.encoding, l.pruning, &mut list);
+        let c = loaded_by(log, &drawn(n), clock);
+        self.add_polygraph(c, l, &p, &list);
     }
-}
 
-// One setting of a log more, beside random table n and with times.
-fn with_setting(
-    t: Tally,
-    log: &[u8],
-    n: u64,
-    clock: Clock,
-    encoding: u8,
-    pruning: u8,
-    mark: u32,
-) -> Tally {
-    let mut list = [mark; 16384];
-    let p = direct::encoded(log, times_of(clock), encoding, pruning, &mut list);
-    let starting = drawn(n);
-    let c = loaded_by(log, &starting, clock);
-    let l = Lent {
-        encoding,
-        pruning,
-        places: 0,
-        words: 0,
-        mark,
-    };
-    let listed = with_polygraph(t, c, l, p, &list);
-    with_refusals(listed, c, l, p)
-}
-
-// Whether the clock gives an edge.
-fn gives_edge(x: Clock) -> bool {
-    let rows = direct::edges::with_clock([0; 32], times_of(x), x.count);
-    !same_rows([0; 40], rows, 0)
-}
-
-// One log more: whether it has a read-back, times, and an edge by them.
-fn counted(t: Tally, log: &[u8], clock: Clock) -> Tally {
-    let mut out = t;
-    out.backs = more(t.backs, one(direct::reads_back(log)));
-    out.timed = more(t.timed, one(clock.count > 0));
-    out.edged = more(t.edged, one(gives_edge(clock)));
-    out
-}
-
-// The six settings of the log that is the first `length` bytes, beside random table n and with times.
-fn with_log(t: Tally, bytes: &[u8], length: usize, n: u64, clock: Clock, mark: u32) -> Tally {
-    if length > bytes.len() {
-        return t;
-    }
-    let log = &bytes[0..length];
-    let mut out = counted(t, log, clock);
-    for s in 0..6u8 {
-        let next = with_setting(out, log, n, clock, s / 2, s % 2, mark);
-        out = next;
-    }
-    out
-}
-
-fn empty() -> Tally {
-    Tally {
-        backs: 0,
-        timed: 0,
-        edged: 0,
-        polygraphs: 0,
-        constraints: 0,
-        left: 0,
-        different: 0,
-        refused: 0,
-        otherwise: 0,
+    // A log: whether it has a read-back, times, and an edge by them; and its six settings, beside random table n.
+    fn add_log(&mut self, log: &[u8], n: u64, clock: &Clock, mark: u32) {
+        add_if(&mut self.backs, direct::reads_back(log));
+        add_if(&mut self.timed, clock.count > 0);
+        add_if(&mut self.edged, gives_edge(clock));
+        for s in 0..6u8 {
+            let l = Lent {
+                encoding: s / 2,
+                pruning: s % 2,
+                places: 0,
+                words: 0,
+                mark,
+            };
+            self.add_setting(log, n, clock, l);
+        }
     }
 }
 
 // Where the logs come from: small histories of a kind; those of a kind with 32 transactions over 4 keys; full windows of a shape.
 #[derive(Clone, Copy)]
 enum Source {
-    Small(u8),
-    FewKeys(u8),
+    Small(Kind),
+    FewKeys(Kind),
     Windows(Shape),
 }
 
 // The log of a source by its number.
 fn log_by(source: Source, seed: u64) -> Bytes {
     match source {
-        Source::Small(kind) => trial::log::of(trial::small(kind, seed)),
-        Source::FewKeys(kind) => trial::log::of(trial::history(kind, 32, 4, seed)),
-        Source::Windows(shape) => Bytes {
-            bytes: windows::log_of(shape, seed),
-            length: 1156,
-        },
+        Source::Small(kind) => trial::log::of(&trial::small(kind, seed)),
+        Source::FewKeys(kind) => trial::log::of(&trial::history(kind, 32, 4, seed)),
+        Source::Windows(shape) => Bytes::whole(windows::log_of(shape, seed)),
     }
 }
 
-// The times of a log of n transactions, in each manner in turn. The run is in the order.
-fn times_by(n: u8, order: [u8; 32], seed: u64) -> Times {
-    trial::times::of_manner((seed % 4) as u8, n, order, seed)
-}
-
-// The times of the log of n transactions by its number. Those of each kind are others.
-fn drawn_times(source: Source, n: u8, seed: u64) -> Times {
-    match source {
-        Source::Small(kind) => times_by(
-            n,
+// The times of the log of n transactions by its number, in each manner in turn. Those of each kind are others.
+fn times_by(source: Source, n: u8, seed: u64) -> Times {
+    let (order, seed) = match source {
+        Source::Small(kind) | Source::FewKeys(kind) => (
             trial::times::run_order(n, seed),
             seed % 1000000 * 5 + kind as u64,
         ),
-        Source::FewKeys(kind) => times_by(
-            n,
-            trial::times::run_order(n, seed),
-            seed % 1000000 * 5 + kind as u64,
-        ),
-        Source::Windows(_) => times_by(n, windows::order_of(seed), seed),
-    }
-}
-
-// The same as Load takes them; or none.
-fn clock_by(source: Source, n: usize, timed: bool, seed: u64) -> Clock {
-    if !timed {
-        return none();
-    }
-    let x = drawn_times(source, (n % 33) as u8, seed);
-    let begin = x.begin;
-    let end = x.end;
-    Clock {
-        count: n % 33,
-        begin,
-        end,
-        drift: x.drift,
-    }
+        Source::Windows(_) => (windows::order_of(seed), seed),
+    };
+    trial::times::of_manner(trial::times::manner_by(seed), n, &order, seed)
 }
 
 // What stands in the lent list.
@@ -339,47 +220,31 @@ fn mark_by(source: Source, seed: u64) -> u32 {
     }
 }
 
-// The log of a source with its number, with times or without.
-fn with_source(t: Tally, source: Source, timed: bool, seed: u64) -> Tally {
-    let l = log_by(source, seed);
-    let bytes = l.bytes;
-    let clock = clock_by(source, direct::transactions(&bytes), timed, seed);
-    with_log(t, &bytes, l.length, seed, clock, mark_by(source, seed))
-}
-
-// The first so many logs of a source.
+// The first so many logs of a source, with times or without.
 fn totals(source: Source, timed: bool, count: u64) -> Tally {
-    let mut t = empty();
+    let mut t = Tally::default();
     for seed in 0..count {
-        let next = with_source(t, source, timed, seed);
-        t = next;
+        let whole = log_by(source, seed);
+        let log = whole.as_slice();
+        let clock = if timed {
+            let n = (direct::transactions(log) % 33) as u8;
+            of_times(&times_by(source, n, seed), n)
+        } else {
+            none()
+        };
+        t.add_log(log, seed, &clock, mark_by(source, seed));
     }
     t
 }
 
-fn small(kind: u8) -> Tally {
-    totals(Source::Small(kind), false, SMALL)
-}
-
-fn small_timed(kind: u8) -> Tally {
-    totals(Source::Small(kind), true, SMALL)
-}
-
-fn few_keys(kind: u8) -> Tally {
-    totals(Source::FewKeys(kind), false, FULL)
-}
-
-fn few_keys_timed(kind: u8) -> Tally {
-    totals(Source::FewKeys(kind), true, FULL)
-}
-
-fn full(shape: Shape, timed: bool) -> Tally {
-    totals(Source::Windows(shape), timed, FULL)
-}
-
 // ---- the output
 
-fn print(name: &[u8], t: Tally) {
+// The line of the first so many logs of a source.
+fn print(name: &[u8], source: Source, timed: bool, count: u64) {
+    let t = totals(source, timed, count);
+    if timed {
+        text(b"with times, ");
+    }
     text(name);
     text(b": logs with read-backs");
     number(t.backs);
@@ -404,37 +269,19 @@ fn print(name: &[u8], t: Tally) {
     end();
 }
 
-// Windows whose transactions read and write each of their keys.
-fn print_pairs(name: &[u8], width: u64, loose: bool, timed: bool) {
-    let shape = Shape {
-        form: Form::Pairs,
-        sparse: 1,
-        width,
-        loose,
-    };
-    print(name, full(shape, timed));
+fn print_small(timed: bool) {
+    for kind in KINDS {
+        print(kind.name(), Source::Small(kind), timed, SMALL);
+    }
 }
 
-// Windows whose transactions read or write each of their keys: one operation of so many reads.
-fn print_singles(name: &[u8], sparse: u64, width: u64, timed: bool) {
-    let shape = Shape {
-        form: Form::Singles,
-        sparse,
-        width,
-        loose: false,
-    };
-    print(name, full(shape, timed));
+fn print_few_keys(name: &[u8], kind: Kind, timed: bool) {
+    print(name, Source::FewKeys(kind), timed, FULL);
 }
 
-// Windows whose transactions read back each key that they write.
-fn print_backs(name: &[u8], width: u64, loose: bool, timed: bool) {
-    let shape = Shape {
-        form: Form::Backs,
-        sparse: 1,
-        width,
-        loose,
-    };
-    print(name, full(shape, timed));
+fn print_windows(name: &[u8], form: Form, width: u64, loose: bool, timed: bool) {
+    let shape = Shape { form, width, loose };
+    print(name, Source::Windows(shape), timed, FULL);
 }
 
 fn asking(encoding: u8, pruning: u8, places: usize, words: usize) -> Lent {
@@ -447,15 +294,6 @@ fn asking(encoding: u8, pruning: u8, places: usize, words: usize) -> Lent {
     }
 }
 
-// One call more that must be refused with the number.
-fn with_refusal(t: Tally, c: Case, l: Lent, expected: u64) -> Tally {
-    let yes = refuses(c, l, expected);
-    let mut out = t;
-    out.refused = more(t.refused, one(yes));
-    out.otherwise = more(t.otherwise, one(!yes));
-    out
-}
-
 fn print_refusals(name: &[u8], t: Tally) {
     text(name);
     text(b": refused as it must be");
@@ -465,65 +303,92 @@ fn print_refusals(name: &[u8], t: Tally) {
     end();
 }
 
-// Settings out of range, also where the lists are too short: two transactions that write one key have a constraint in encodings 1 and 2.
+// Two transactions that write one key, which gives a constraint in encodings 1 and 2.
+fn two() -> Case {
+    loaded(b"\x02\x00\x02\x00\x00\x01\x00\x00\x01\x01\x01\x00\x01\x00\x05\x00\x01\x00\x07\x00")
+}
+
+// Settings out of range, also where the lists are too short.
 fn settings() -> Tally {
-    let c = loaded(
-        b"\x02\x00\x02\x00\x00\x01\x00\x00\x01\x01\x01\x00\x01\x00\x05\x00\x01\x00\x07\x00",
-    );
-    let a = with_refusal(empty(), c, asking(3, 0, 4096, 32), 12);
-    let b = with_refusal(a, c, asking(255, 1, 4096, 32), 12);
-    let d = with_refusal(b, c, asking(0, 2, 4096, 32), 12);
-    with_refusal(d, c, asking(2, 255, 0, 31), 12)
+    let c = two();
+    let mut t = Tally::default();
+    t.add_refusal(c, asking(3, 0, 4096, 32), Refusal::NoSuchSetting);
+    t.add_refusal(c, asking(255, 1, 4096, 32), Refusal::NoSuchSetting);
+    t.add_refusal(c, asking(0, 2, 4096, 32), Refusal::NoSuchSetting);
+    t.add_refusal(c, asking(2, 255, 0, 31), Refusal::NoSuchSetting);
+    t
 }
 
 // A fresh case, also where the setting is out of range and the lists are too short.
 fn blanks() -> Tally {
-    let a = with_refusal(empty(), Case::fresh(), asking(0, 0, 4096, 32), 22);
-    let b = with_refusal(a, Case::fresh(), asking(2, 1, 0, 31), 22);
-    with_refusal(b, Case::fresh(), asking(3, 2, 0, 0), 22)
-}
-
-// A case with another count of times and another drift.
-fn with_times(c: Case, count: usize, drift: u32) -> Case {
-    let mut clock = none();
-    clock.count = count;
-    clock.drift = drift;
-    let mut out = c;
-    out.clock = clock;
-    out
+    let mut t = Tally::default();
+    t.add_refusal(
+        Case::fresh(),
+        asking(0, 0, 4096, 32),
+        Refusal::NothingLoaded,
+    );
+    t.add_refusal(Case::fresh(), asking(2, 1, 0, 31), Refusal::NothingLoaded);
+    t.add_refusal(Case::fresh(), asking(3, 2, 0, 0), Refusal::NothingLoaded);
+    t
 }
 
 // Cases of two transactions that count as fresh by their times, and one that does not.
 fn odd_times() -> Tally {
-    let c = loaded(
-        b"\x02\x00\x02\x00\x00\x01\x00\x00\x01\x01\x01\x00\x01\x00\x05\x00\x01\x00\x07\x00",
+    let c = two();
+    let mut t = Tally::default();
+    t.add_refusal(
+        with_count(c, 1, 0),
+        asking(0, 0, 4096, 32),
+        Refusal::NothingLoaded,
     );
-    let a = with_refusal(empty(), with_times(c, 1, 0), asking(0, 0, 4096, 32), 22);
-    let b = with_refusal(a, with_times(c, 33, 0), asking(2, 1, 0, 31), 22);
-    let d = with_refusal(b, with_times(c, 0, 3601), asking(3, 2, 0, 0), 22);
-    with_refusal(d, with_times(c, 2, 3600), asking(3, 2, 0, 0), 12)
+    t.add_refusal(
+        with_count(c, 33, 0),
+        asking(2, 1, 0, 31),
+        Refusal::NothingLoaded,
+    );
+    t.add_refusal(
+        with_count(c, 0, 3601),
+        asking(3, 2, 0, 0),
+        Refusal::NothingLoaded,
+    );
+    t.add_refusal(
+        with_count(c, 2, 3600),
+        asking(3, 2, 0, 0),
+        Refusal::NoSuchSetting,
+    );
+    t
 }
 
 fn small_histories() {
-    print(b"any reads", small(trial::ANY));
-    print(b"serial runs", small(trial::SERIAL));
-    print(b"one read disturbed", small(trial::DISTURBED));
-    print(b"blind writes", small(trial::BLIND));
-    print(b"read-modify-write chains", small(trial::CHAINS));
-    print(b"32 transactions, any reads", few_keys(trial::ANY));
-    print(
+    print_small(false);
+    print_few_keys(b"32 transactions, any reads", Kind::Any, false);
+    print_few_keys(
         b"32 transactions, one read disturbed",
-        few_keys(trial::DISTURBED),
+        Kind::Disturbed,
+        false,
     );
-    print(b"32 transactions, blind writes", few_keys(trial::BLIND));
-    print(b"32 transactions, chains", few_keys(trial::CHAINS));
+    print_few_keys(b"32 transactions, blind writes", Kind::Blind, false);
+    print_few_keys(b"32 transactions, chains", Kind::Chains, false);
 }
 
 fn full_windows() {
-    print_pairs(b"full windows, 4 keys read and written", 1, false, false);
-    print_pairs(b"full windows, 32 keys read and written", 8, false, false);
-    print_pairs(
+    print_windows(
+        b"full windows, 4 keys read and written",
+        Form::Pairs,
+        1,
+        false,
+        false,
+    );
+    print_windows(
+        b"full windows, 32 keys read and written",
+        Form::Pairs,
+        8,
+        false,
+        false,
+    );
+    print_windows(
         b"full windows, 16 keys, some reads of anything",
+        Form::Pairs,
         4,
         true,
         false,
@@ -532,93 +397,93 @@ fn full_windows() {
 
 // Windows whose transactions read or write each key, and those whose transactions read back.
 fn further_windows() {
-    print_singles(b"full windows, 8 keys read or written", 2, 1, false);
-    print_singles(b"full windows, 32 keys read or written", 2, 4, false);
-    print_singles(
+    print_windows(
+        b"full windows, 8 keys read or written",
+        Form::Singles(2),
+        1,
+        false,
+        false,
+    );
+    print_windows(
+        b"full windows, 32 keys read or written",
+        Form::Singles(2),
+        4,
+        false,
+        false,
+    );
+    print_windows(
         b"full windows, 8 keys, one operation of 32 reads",
-        32,
+        Form::Singles(32),
         1,
         false,
+        false,
     );
-    print_singles(
+    print_windows(
         b"full windows, 32 keys, one operation of 16 reads",
-        16,
+        Form::Singles(16),
         4,
         false,
+        false,
     );
-    print_backs(
+    print_windows(
         b"full windows, 3 keys written and read back",
+        Form::Backs,
         1,
         false,
         false,
     );
-    print_backs(
+    print_windows(
         b"full windows, 24 keys written and read back",
+        Form::Backs,
         8,
         false,
         false,
     );
-    print_backs(
+    print_windows(
         b"full windows, 12 keys read back, some reads of anything",
+        Form::Backs,
         4,
         true,
         false,
     );
 }
 
-fn small_with_times() {
-    print(b"with times, any reads", small_timed(trial::ANY));
-    print(b"with times, serial runs", small_timed(trial::SERIAL));
-    print(
-        b"with times, one read disturbed",
-        small_timed(trial::DISTURBED),
-    );
-    print(b"with times, blind writes", small_timed(trial::BLIND));
-    print(
-        b"with times, read-modify-write chains",
-        small_timed(trial::CHAINS),
-    );
-    print(
-        b"with times, 32 transactions, any reads",
-        few_keys_timed(trial::ANY),
-    );
-    print(
-        b"with times, 32 transactions, blind writes",
-        few_keys_timed(trial::BLIND),
-    );
-    print(
-        b"with times, 32 transactions, chains",
-        few_keys_timed(trial::CHAINS),
-    );
-}
-
-fn full_with_times() {
-    print_pairs(
-        b"with times, full windows, 32 keys read and written",
+fn all_with_times() {
+    print_small(true);
+    print_few_keys(b"32 transactions, any reads", Kind::Any, true);
+    print_few_keys(b"32 transactions, blind writes", Kind::Blind, true);
+    print_few_keys(b"32 transactions, chains", Kind::Chains, true);
+    print_windows(
+        b"full windows, 32 keys read and written",
+        Form::Pairs,
         8,
         false,
         true,
     );
-    print_pairs(
-        b"with times, full windows, 16 keys, some reads of anything",
+    print_windows(
+        b"full windows, 16 keys, some reads of anything",
+        Form::Pairs,
         4,
         true,
         true,
     );
-    print_singles(
-        b"with times, full windows, 32 keys read or written",
-        2,
+    print_windows(
+        b"full windows, 32 keys read or written",
+        Form::Singles(2),
         4,
+        false,
         true,
     );
-    print_singles(
-        b"with times, full windows, 32 keys, one operation of 16 reads",
-        16,
+    print_windows(
+        b"full windows, 32 keys, one operation of 16 reads",
+        Form::Singles(16),
         4,
+        false,
         true,
     );
-    print_backs(
-        b"with times, full windows, 24 keys written and read back",
+    print_windows(
+        b"full windows, 24 keys written and read back",
+        Form::Backs,
         8,
         false,
         true,
@@ -629,8 +494,7 @@ fn main() {
     small_histories();
     full_windows();
     further_windows();
-    small_with_times();
-    full_with_times();
+    all_with_times();
     print_refusals(b"settings out of range", settings());
     print_refusals(b"a fresh case", blanks());
     print_refusals(

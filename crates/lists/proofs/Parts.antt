@@ -44,10 +44,10 @@ pub lent_long : {A : Type 0} (n m : ℕ) (x : A) → n ≤ m → length (take n 
 lent_long {A} n m x h = ap (λ (l : List A). length l) (take-replicate n m x h) ∙ length-replicate n x
 
 -- what Bills gave, and the whole list of m places after it
-pub billed_first : (c : Case) (n m : ℕ) (mark : Bill) (l zs rest whole : List Bill) (x answer : Answer) → n ≤ m → l ≡ replicate n mark → rest ≡ replicate (m - n) mark
-    → x ≡ replying c (bills_refused c (length l)) → zs ≡ bills_left c l → answer ≡ x → whole ≡ zs ++ rest
-    → (answer ≡ replying c (bills_refused c n)) × (whole ≡ bills_left c (replicate n mark) ++ replicate (m - n) mark)
-billed_first c n m mark l zs rest whole x answer h is behind result list said shows = (
-  said ∙ result ∙ ap (λ (k : ℕ). replying c (bills_refused c k)) (ap (λ (y : List Bill). length y) is ∙ length-replicate n mark),
-  shows ∙ ap₂ (λ (y z : List Bill). y ++ z) (list ∙ ap (λ (y : List Bill). bills_left c y) is) behind,
+pub billed_first : (c : Case) (n m : ℕ) (mark : Bill) (l zs rest : List Bill) (answer : Answer) → l ≡ replicate n mark → rest ≡ replicate (m - n) mark
+    → answer ≡ replying c (bills_refused c (length l)) → zs ≡ bills_left c l
+    → (answer ≡ replying c (bills_refused c n)) × (zs ++ rest ≡ bills_left c (replicate n mark) ++ replicate (m - n) mark)
+billed_first c n m mark l zs rest answer is behind result list = (
+  result ∙ ap (λ (k : ℕ). replying c (bills_refused c k)) (ap (λ (y : List Bill). length y) is ∙ length-replicate n mark),
+  ap₂ (λ (y z : List Bill). y ++ z) (list ∙ ap (λ (y : List Bill). bills_left c y) is) behind,
 )

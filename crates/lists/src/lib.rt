@@ -79,12 +79,6 @@ pub fn bills(c: Case, places: usize, mark: Bill) -> Billed
 {
     let mut list = [mark; 20];
     let answer = c.bills(&mut list[..places]);
-    shown(answer, list)
-}
-
-fn shown(answer: Answer, list: [Bill; 20]) -> Billed
-    ensures { result ≡ record { answer = answer; list = list } }
-{
     Billed { answer, list }
 }
 
@@ -100,13 +94,6 @@ pub fn marked(x: u32) -> Constraint {
 
 // Whether the first n words are the same.
 pub fn same_words(a: &[u32; 16384], b: &[u32; 16384], n: usize) -> bool {
-    for i in 0..16384usize {
-        if i >= n {
-            return true;
-        }
-        if a[i] != b[i] {
-            return false;
-        }
-    }
-    true
+    let n = n.min(16384);
+    a[..n] == b[..n]
 }

@@ -1,5 +1,5 @@
 -- The tests that the code makes are the model's; one round more of each loop. Assumes nothing.
-use Prim.Native.Nat.{ℕ, zero, suc, ◌+◌, ◌*◌, ◌≤◌, ◌<◌}
+use Prim.Native.Nat.{ℕ, zero, suc, ◌+◌, ◌≤◌, ◌<◌}
 use native.Mathlib.Omega.{arith}
 use native.Mathlib.Numerals.{add-one}
 use mathlib.Core.Path.{◌≡◌, refl, sym, ap, ap₂, subst, ◌∙◌}
@@ -9,50 +9,32 @@ use mathlib.Core.List.{List}
 use lib.Dec.{T, eqb, ltb, eqb→eq, nltb→le}
 use Rattle.model.specs.Lists.{bit}
 use Rattle.model.specs.History.{start}
-use Rattle.model.specs.Log.{transactions_in, operations_in, count_at, start_at, counts_before, kind_at, key_at, argument_at, or_else, first_number, entry_number, seen, back_at, seen_back, again, body_number, bodies_number}
-use Rattle.model.proofs.Loaded.{Bytes, first_suc, first_on, first_stop, first_out, counts_suc, counts_mono, good_entry, good_body}
-use Rattle.rules.specs.Tests.{named, back_by, read_by, write_by, body_by, mark_by, mark_back}
-use Rattle.logs.specs.Tests.{entry_by, next_by, summed_to}
+use Rattle.model.specs.Log.{transactions_in, operations_in, count_at, start_at, counts_before, kind_at, key_at, argument_at, first_number, entry_number, seen, back_at, seen_back, again, body_number}
+use Rattle.model.proofs.Loaded.{first_on, first_stop, first_out, counts_suc, counts_mono, good_entry, good_body}
+use Rattle.rules.specs.Tests.{named, back_by, read_by, write_by, body_by, after_by, mark_by, mark_back}
+use Rattle.logs.specs.Tests.{entry_by}
 use Rattle.logs.specs.Reading.{entry_at, record_at}
 use Rattle.rules.specs.declared.Body.{Body}
-use Rattle.logs.specs.declared.entries.Summed.{Summed}
+use Rattle.rules.specs.declared.Seen.{Seen}
 use Rattle.logs.specs.declared.view.Entry.{Entry}
 use Rattle.logs.proofs.Keys.{mask_at, backs_at, masks_start, backs_start, mask_bit, backs_bit, mask_next, backs_next}
 
 -- ---- entries
 
--- one entry more
-pub entries_next : (b : List ℕ) (t : ℕ) → next_by b t (summed_to b t) ≡ summed_to b (t + 1)
-unfolding next_by entry_by entry_number
-entries_next b t =
-    ap₂ summed (sym (first_suc (entry_number b) t) ∙ ap (first_number (entry_number b)) (sym (add-one t))) (sym (counts_suc b t) ∙ ap (counts_before b) (sym (add-one t)))
-  where
-    summed : ℕ → ℕ → Summed
-    summed n s = record { number = n; sum = s }
+-- an entry's test, where the counts before it are summed
+pub entry_tested : (b : List ℕ) (t sum x : ℕ) (e : Entry) → e ≡ entry_at b t → sum ≡ counts_before b t → x ≡ entry_by e sum → x ≡ entry_number b t
+unfolding entry_by entry_number
+entry_tested b t sum x e p q r = r ∙ ap₂ entry_by p q
 
--- the same as the code does it
-pub next_is : (b : List ℕ) (t : ℕ) (c : Summed) (e : Entry) (x y : ℕ) → e ≡ entry_at b t → x ≡ entry_by e c.sum → y ≡ or_else c.number x
-    → record { number = y; sum = c.sum + e.count } ≡ next_by b t c
-unfolding next_by
-next_is b t c e x y p q r =
-    ap₂ summed (r ∙ ap (or_else c.number) (q ∙ ap (λ (f : Entry). entry_by f c.sum) p)) (ap (λ (f : Entry). c.sum + f.count) p)
-  where
-    summed : ℕ → ℕ → Summed
-    summed n s = record { number = n; sum = s }
-
-pub summed_out : (b : List ℕ) (n : ℕ) (c : Summed) → c ≡ summed_to b n → (c.number ≡ first_number (entry_number b) n) × (c.sum ≡ counts_before b n)
-summed_out b n c e = (ap (λ (s : Summed). s.number) e, ap (λ (s : Summed). s.sum) e)
-
--- none yet
-pub entries_none : (b : List ℕ) → record { number = 0; sum = 0 } ≡ summed_to b 0
-unfolding first_number counts_before
-entries_none b = refl
-
--- the counts of n entries sum to at most 255 for each
-pub sum_low : (b : List ℕ) → Bytes b → (n : ℕ) → counts_before b n ≤ 255 * n
+-- the counts of none sum to 0
+pub none_yet : (b : List ℕ) → 0 ≡ counts_before b 0
 unfolding counts_before
-sum_low b small zero = omega arith
-sum_low b small (suc n) = omega (arith, sum_low b small n, small (5 + 4 * n))
+none_yet b = refl
+
+-- the sum of the counts, one entry more
+pub counts_more : (b : List ℕ) (t sum : ℕ) (e : Entry) → e ≡ entry_at b t → sum ≡ counts_before b t → sum + e.count ≡ counts_before b (t + 1)
+counts_more b t sum e p q =
+    omega (arith, ap (λ (y : Entry). y.count) p, counts_suc b t, ap (counts_before b) (add-one t))
 
 -- a transaction's bodies are among the N, where the entries are good and the counts sum to N
 pub within : (b : List ℕ) → first_number (entry_number b) (transactions_in b) ≡ 0 → counts_before b (transactions_in b) ≡ operations_in b
@@ -136,43 +118,42 @@ module _ (b : List ℕ) (first : ℕ) where
 -- ---- the loop over a transaction's bodies
 
 -- after m bodies of transaction t, whose first body is given: all are good, and the masks are of the keys that they read, write and read back
-pub record Sofar (b : List ℕ) (t first m reads writes backs : ℕ) : Type 0 where
+pub record Sofar (b : List ℕ) (t first m : ℕ) (s : Seen) : Type 0 where
   pub none : first_number (body_number b t first) m ≡ 0
-  pub reads_is : reads ≡ mask_at b first m 0
-  pub writes_is : writes ≡ mask_at b first m 1
-  pub backs_is : backs ≡ backs_at b first m
+  pub reads_is : s.reads ≡ mask_at b first m 0
+  pub writes_is : s.writes ≡ mask_at b first m 1
+  pub backs_is : s.backs ≡ backs_at b first m
 
-pub sofar_start : (b : List ℕ) (t first : ℕ) → Sofar b t first 0 0 0 0
+pub sofar_start : (b : List ℕ) (t first : ℕ) (s : Seen) → (s.reads ≡ 0) × ((s.writes ≡ 0) × (s.backs ≡ 0)) → Sofar b t first 0 s
 unfolding first_number
-sofar_start b t first =
-    record { none = refl; reads_is = masks_start b first 0; writes_is = masks_start b first 1; backs_is = backs_start b first }
+sofar_start b t first s z =
+    record { none = refl; reads_is = z.0 ∙ masks_start b first 0; writes_is = z.1.0 ∙ masks_start b first 1; backs_is = z.1.1 ∙ backs_start b first }
 
-module _ (b : List ℕ) (t first m n reads writes backs x : ℕ) (o : Body) (count : n ≡ transactions_in b) (s : Sofar b t first m reads writes backs)
-    (is : o ≡ record_at b (first + m)) (e : x ≡ body_by o n t reads writes backs) where
+module _ (b : List ℕ) (t first m n : ℕ) (s : Seen) (x : ℕ) (o : Body) (count : n ≡ transactions_in b) (p : Sofar b t first m s) (is : o ≡ record_at b (first + m))
+    (e : x ≡ body_by o n t s.reads s.writes s.backs) where
   pub sofar_number : x ≡ body_number b t first m
   sofar_number =
-      e ∙ ap₂ (λ y k. body_by y k t reads writes backs) is count
-      ∙ ap₂ (λ r w. body_by (record_at b (first + m)) (transactions_in b) t r w backs) s.reads_is s.writes_is
-      ∙ ap (body_by (record_at b (first + m)) (transactions_in b) t (mask_at b first m 0) (mask_at b first m 1)) s.backs_is ∙ body_is b first t m
+      e ∙ ap₂ (λ y k. body_by y k t s.reads s.writes s.backs) is count
+      ∙ ap₂ (λ r w. body_by (record_at b (first + m)) (transactions_in b) t r w s.backs) p.reads_is p.writes_is
+      ∙ ap (body_by (record_at b (first + m)) (transactions_in b) t (mask_at b first m 0) (mask_at b first m 1)) p.backs_is ∙ body_is b first t m
 
   pub sofar_stop : (c : ℕ) → m < c → x ≢ 0 → x ≡ first_number (body_number b t first) c
   sofar_stop c l f =
-      sofar_number ∙ sym (first_stop (body_number b t first) m c l s.none (λ z. f (sofar_number ∙ z)))
+      sofar_number ∙ sym (first_stop (body_number b t first) m c l p.none (λ z. f (sofar_number ∙ z)))
 
   pub sofar_key : x ≡ 0 → o.key < 32
   sofar_key z = omega (arith, (good_body b t first m (sym sofar_number ∙ z)).key, ap (λ (y : Body). y.key) is)
 
-  pub sofar_next : x ≡ 0 → (r w k : ℕ) → k ≡ mark_back backs writes o.kind o.key → r ≡ mark_by reads o.kind 0 o.key → w ≡ mark_by writes o.kind 1 o.key
-      → Sofar b t first (m + 1) r w k
-  sofar_next z r w k h p q =
+  pub sofar_next : x ≡ 0 → (r : Seen) → r ≡ after_by s o → Sofar b t first (m + 1) r
+  sofar_next z r h =
       let key : key_at b (first + m) < 32 = omega (arith, (good_body b t first m (sym sofar_number ∙ z)).key) in
-      subst (λ i. Sofar b t first i r w k) (sym (add-one m))
+      subst (λ i. Sofar b t first i r) (sym (add-one m))
       (record {
-        none = first_on (body_number b t first) m s.none (sym sofar_number ∙ z);
-        reads_is = p ∙ ap₂ (λ y (c : Body). mark_by y c.kind 0 c.key) s.reads_is is ∙ mask_next b first m 0 key;
-        writes_is = q ∙ ap₂ (λ y (c : Body). mark_by y c.kind 1 c.key) s.writes_is is ∙ mask_next b first m 1 key;
-        backs_is = h ∙ ap₂ (λ y (c : Body). mark_back y writes c.kind c.key) s.backs_is is
-            ∙ ap (λ y. mark_back (backs_at b first m) y (kind_at b (first + m)) (key_at b (first + m))) s.writes_is ∙ backs_next b first m key;
+        none = first_on (body_number b t first) m p.none (sym sofar_number ∙ z);
+        reads_is = ap (λ (y : Seen). y.reads) h ∙ ap₂ (λ y (c : Body). mark_by y c.kind 0 c.key) p.reads_is is ∙ mask_next b first m 0 key;
+        writes_is = ap (λ (y : Seen). y.writes) h ∙ ap₂ (λ y (c : Body). mark_by y c.kind 1 c.key) p.writes_is is ∙ mask_next b first m 1 key;
+        backs_is = ap (λ (y : Seen). y.backs) h ∙ ap₂ (λ y (c : Body). mark_back y s.writes c.kind c.key) p.backs_is is
+            ∙ ap (λ y. mark_back (backs_at b first m) y (kind_at b (first + m)) (key_at b (first + m))) p.writes_is ∙ backs_next b first m key;
       })
 
 -- ---- the loop over the transactions
@@ -182,7 +163,3 @@ first_found f n m x l e p g = p ∙ sym (first_stop f n m l e (λ z. g (p ∙ z)
 
 pub first_next : (f : ℕ → ℕ) (n x : ℕ) → first_number f n ≡ 0 → x ≡ f n → x ≡ 0 → first_number f (n + 1) ≡ 0
 first_next f n x e p z = ap (first_number f) (add-one n) ∙ first_on f n e (sym p ∙ z)
-
-pub bodies_start : (b : List ℕ) → first_number (bodies_number b) 0 ≡ 0
-unfolding first_number
-bodies_start b = refl

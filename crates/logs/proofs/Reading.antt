@@ -1,52 +1,18 @@
 -- Where a log with the number 0 has its fields. Assumes nothing.
 use Prim.Native.Nat.{ℕ, ◌+◌, ◌*◌, ◌≤◌, ◌<◌}
 use native.Mathlib.Omega.{arith}
-use mathlib.Core.Path.{◌≡◌, ap, ap₂, ◌∙◌}
+use mathlib.Core.Path.{◌≡◌, ap, ap₂}
 use mathlib.Core.List.{List}
 use lib.ListN.{length}
-use Rattle.model.specs.Log.{byte_at, pair_at, transactions_in, operations_in, cabinet_at, count_at, start_at, body_at, key_at, load_number, operation_at}
+use Rattle.model.specs.Log.{transactions_in, operations_in, cabinet_at, count_at, start_at, key_at, load_number, operation_at}
 use Rattle.model.proofs.Loaded.{loaded, within, body_in, entry_in, body_good}
 use Rattle.model.specs.History.{Operation}
-use Rattle.logs.specs.Reading.{header_at, entry_at, as_operation, InLog, IsBody, IsOperation}
+use Rattle.logs.specs.Reading.{header_at, as_operation, InLog, IsBody, IsOperation}
 use Rattle.rules.specs.declared.Body.{Body}
 use Rattle.logs.specs.declared.view.Header.{Header}
-use Rattle.logs.specs.declared.view.Entry.{Entry}
-
--- an entry, by the bytes that it is read from
-pub entry_is : (b : List ℕ) (t x : ℕ) → x ≡ pair_at b (4 + 4 * t + 2)
-    → record { cabinet = byte_at b (4 + 4 * t); count = byte_at b (4 + 4 * t + 1); start = x } ≡ entry_at b t
-entry_is b t x e =
-    let p : 4 + 4 * t + 1 ≡ 5 + 4 * t = omega arith in
-    let q : 4 + 4 * t + 2 ≡ 6 + 4 * t = omega arith in
-    ap₂ entry (ap (byte_at b) p) (e ∙ ap (pair_at b) q)
-  where
-    entry : ℕ → ℕ → Entry
-    entry m n = record { cabinet = byte_at b (4 + 4 * t); count = m; start = n }
-
--- the header, by the fields that it is read from
-pub header_is : (b : List ℕ) (x y : ℕ) → x ≡ transactions_in b → y ≡ operations_in b → record { transactions = x; operations = y } ≡ header_at b
-header_is b x y p q = ap₂ header p q
-  where
-    header : ℕ → ℕ → Header
-    header m n = record { transactions = m; operations = n }
 
 pub head_out : (b : List ℕ) (h : Header) → h ≡ header_at b → (h.transactions ≡ transactions_in b) × (h.operations ≡ operations_in b)
 head_out b h e = (ap (λ (y : Header). y.transactions) e, ap (λ (y : Header). y.operations) e)
-
--- a body, by the bytes that it is read from
-pub body_is_read : (b : List ℕ) (i at kind key argument : ℕ) → at ≡ body_at b i
-    → (kind ≡ byte_at b at) × (kind < 256) → (key ≡ byte_at b (at + 1)) × (key < 256) → (argument ≡ pair_at b (at + 2)) × (argument < 65536)
-    → IsBody b i (record { kind = kind; key = key; argument = argument })
-body_is_read b i at kind key argument e x y z =
-    record {
-      is = ap₂ (λ f a. f a) (ap₂ made (x.0 ∙ ap (byte_at b) e) (y.0 ∙ ap (λ j. byte_at b (j + 1)) e)) (z.0 ∙ ap (λ j. pair_at b (j + 2)) e);
-      kind_fits = x.1;
-      key_fits = y.1;
-      argument_fits = z.1;
-    }
-  where
-    made : ℕ → ℕ → ℕ → Body
-    made k x a = record { kind = k; key = x; argument = a }
 
 pub few : (b : List ℕ) → load_number b ≡ 0 → transactions_in b ≤ 32
 few b e = (loaded b e).few

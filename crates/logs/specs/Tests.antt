@@ -2,22 +2,12 @@
 -- proofs/ say that both are the model's. Assumes nothing.
 use Rattle.std.specs.Prelude.{ℕ, zero, suc, ◌+◌, ◌*◌, ◌≤◌, ◌<◌, ◌≡◌, length, get_or, cond, List, eqb, ltb}
 use Rattle.rules.specs.Tests.{keep_word}
-use Rattle.model.specs.Log.{transactions_in, operations_in, count_at, start_at, counts_before, or_else, first_number, entry_number, bodies_number}
-use Rattle.logs.specs.Reading.{entry_at}
+use Rattle.model.specs.Log.{transactions_in, operations_in, count_at, start_at, counts_before, first_number, entry_number, bodies_number}
 use Rattle.logs.specs.declared.view.Entry.{Entry}
-use Rattle.logs.specs.declared.entries.Summed.{Summed}
 
 -- an entry, where the counts before it sum to `sum`
 unfoldable pub entry_by : Entry → ℕ → ℕ
 entry_by e sum = cond (ltb 15 e.cabinet) 4 (cond (eqb e.start sum) 0 5)
-
--- one entry more
-unfoldable pub next_by : List ℕ → ℕ → Summed → Summed
-next_by b t c = record { number = or_else c.number (entry_by (entry_at b t) c.sum); sum = c.sum + count_at b t }
-
--- the first n entries
-abbrev pub summed_to : List ℕ → ℕ → Summed
-summed_to b n = record { number = first_number (entry_number b) n; sum = counts_before b n }
 
 -- what the bodies' test relies on: the entries are good, and the log has as many bodies as they count
 pub record GoodEntries (b : List ℕ) (n : ℕ) : Type 0 where

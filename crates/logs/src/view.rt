@@ -1,17 +1,15 @@
 // The view of a log: the lent bytes with an entry number. All of a log is read through it: the header, the entry, and the bodies from the entry's start on.
-// `header_fields`, `entry_fields` and `body_fields` read plain bytes; `read_header`, `read_entry` and `read_body` take a view apart and call them;
-// `header_of`, `entry_of` and `body_of` make a view: every other caller uses these three.
 ghost use Rattle.std.specs.Prelude.{◌≡◌, ◌+◌, ◌*◌, ◌≤◌, length};
 ghost use Rattle.model.specs.Log.{start_at};
 ghost use Rattle.logs.specs.Reading.{header_at, entry_at, EntryIn, BodyIn, IsBody};
 
 use crate::Body;
-use crate::fields::{byte, pair};
+use crate::fields::{field, pair};
 
 #[derive(Clone, Copy)]
 pub(crate) struct LogView<'a> {
-    bytes: &'a [u8],
-    entry: usize,
+    pub(crate) log: &'a [u8],
+    pub(crate) t: usize,
 }
 
 // The header: the counts of transactions and of operations.
@@ -29,113 +27,41 @@ pub(crate) struct Entry {
     pub(crate) start: u16,
 }
 
-// ---- plain bytes
-
-// The header of a log.
-fn header_fields(log: &[u8]) -> Header
-    requires { 4 ≤ length log.now }
-    ensures { result ≡ header_at log.now }
-{
-    let transactions = pair(log, 0) as u16;
-    let operations = pair(log, 2) as u16;
-    Header {
-        transactions,
-        operations,
+impl<'a> LogView<'a> {
+    // The header of the log.
+    pub(crate) fn header(self) -> Header
+        requires { 4 ≤ length self.log.now }
+        ensures { result ≡ header_at self.entry.log.now }
+    {
+        Header {
+            transactions: field(self.log, 0),
+            operations: field(self.log, 2),
+        }
     }
-}
 
-// The fields of entry t.
-fn entry_fields(log: &[u8], t: usize) -> Entry
-    requires { EntryIn log.now t }
-    ensures { result ≡ entry_at log.now t }
-{
-    let at = 4 + 4 * t;
-    let cabinet = log[at];
-    let count = log[at + 1];
-    let start = pair(log, at + 2) as u16;
-    Entry {
-        cabinet,
-        count,
-        start,
+    // The entry of this number.
+    pub(crate) fn entry(self) -> Entry
+        requires { EntryIn self.log.now self.t }
+        ensures { result ≡ entry_at self.entry.log.now self.entry.t }
+    {
+        let at = 4 + 4 * self.t;
+        Entry {
+            cabinet: self.log[at],
+            count: self.log[at + 1],
+            start: field(self.log, at + 2),
+        }
     }
-}
 
-// Body m from the start of entry t on.
-fn body_fields(log: &[u8], t: usize, m: usize) -> Body
-    requires { BodyIn log.now t m }
-    ensures { IsBody log.now (start_at log.now t + m) result }
-{
-    let at = 4 + 4 * pair(log, 0) + 4 * (pair(log, 6 + 4 * t) + m);
-    let kind = byte(log, at);
-    let key = byte(log, at + 1);
-    let argument = pair(log, at + 2);
-    Body {
-        kind,
-        key,
-        argument,
+    // Body m, from the start of the entry on.
+    pub(crate) fn body(self, m: usize) -> Body
+        requires { BodyIn self.log.now self.t m }
+        ensures { IsBody self.entry.log.now (start_at self.entry.log.now self.entry.t + m) result }
+    {
+        let at = 4 + 4 * pair(self.log, 0) + 4 * (pair(self.log, 6 + 4 * self.t) + m);
+        Body {
+            kind: usize::from(self.log[at]),
+            key: usize::from(self.log[at + 1]),
+            argument: pair(self.log, at + 2),
+        }
     }
-}
-
-// ---- views
-
-// The header of a view's log.
-fn read_header<'a>(v: LogView<'a>) -> Header
-    requires { 4 ≤ length v.bytes.now }
-    ensures { result ≡ header_at v.entry.bytes.now }
-{
-    header_fields(v.bytes)
-}
-
-// The entry of a view.
-fn read_entry<'a>(v: LogView<'a>) -> Entry
-    requires { EntryIn v.bytes.now v.entry }
-    ensures { result ≡ entry_at v.entry.bytes.now v.entry.entry }
-{
-    entry_fields(v.bytes, v.entry)
-}
-
-// Body m of a view, from the start of its entry on.
-fn read_body<'a>(v: LogView<'a>, m: usize) -> Body
-    requires { BodyIn v.bytes.now v.entry m }
-    ensures { IsBody v.entry.bytes.now (start_at v.entry.bytes.now v.entry.entry + m) result }
-{
-    body_fields(v.bytes, v.entry, m)
-}
-
-// ---- a log, by numbers
-
-// The header of a log.
-pub(crate) fn header_of(log: &[u8]) -> Header
-    requires { 4 ≤ length log.now }
-    ensures { result ≡ header_at log.now }
-{
-    read_header(LogView {
-        bytes: log,
-        entry: 0,
-    })
-}
-
-// Entry t of a log.
-pub(crate) fn entry_of(log: &[u8], t: usize) -> Entry
-    requires { EntryIn log.now t }
-    ensures { result ≡ entry_at log.now t }
-{
-    read_entry(LogView {
-        bytes: log,
-        entry: t,
-    })
-}
-
-// Body m of a log, from the start of entry t on.
-pub(crate) fn body_of(log: &[u8], t: usize, m: usize) -> Body
-    requires { BodyIn log.now t m }
-    ensures { IsBody log.now (start_at log.now t + m) result }
-{
-    read_body(
-        LogView {
-            bytes: log,
-            entry: t,
-        },
-        m,
-    )
 }

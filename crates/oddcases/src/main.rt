@@ -4,10 +4,11 @@
 #![tactic(auto)]
 
 use checker::{Case, Stage};
+use refusals::{Refusal, number_of};
 use samples::clocks::none;
-use samples::lines::{byte, end, number, text, value, yes_no};
-use samples::tables::{drawn, levels, same};
-use samples::{check_number, load_number, loaded, same_case, with_byte};
+use samples::lines::{end, number, numbers, text, yes_no};
+use samples::tables::{drawn, levels};
+use samples::{check_number, load_number, loaded, with_byte};
 
 mod times;
 
@@ -18,80 +19,60 @@ fn example() -> Case {
     )
 }
 
-// The example's case with another stage, length and order: two numbers and the rest.
-pub(crate) fn made(stage: Stage, length: usize, first: u8, second: u8, rest: u8) -> Case {
-    let clock = none();
-    let c = example();
-    let bytes = c.bytes;
-    let mut order = [rest; 32];
-    order[0] = first;
-    order[1] = second;
+// The example's case from levels, with another stage and its bytes changed.
+fn changed(stage: Stage, bytes: [u8; 1156], length: usize) -> Case {
     Case {
         stage,
         bytes,
         length,
         starting: levels(),
-        clock,
+        clock: none(),
+        order: [0; 32],
+    }
+}
+
+// The example's case with another stage, length and order: two numbers and the rest.
+pub(crate) fn made(stage: Stage, length: usize, first: u8, second: u8, rest: u8) -> Case {
+    let mut order = [rest; 32];
+    order[0] = first;
+    order[1] = second;
+    Case {
         order,
+        ..changed(stage, example().bytes, length)
     }
 }
 
 // The same with another byte at a place.
 fn damaged(stage: Stage, i: usize, x: u8) -> Case {
-    let clock = none();
-    let c = example();
-    let whole = c.bytes;
-    let bytes = with_byte(whole, i, x);
-    Case {
-        stage,
-        bytes,
-        length: 24,
-        starting: levels(),
-        clock,
-        order: [0; 32],
-    }
+    changed(stage, with_byte(example().bytes, i, x), 24)
 }
 
 // The case of one transaction that writes key 0 twice.
 fn twice(stage: Stage) -> Case {
-    let clock = none();
-    let c = example();
-    let whole = c.bytes;
-    let one = with_byte(with_byte(whole, 0, 1), 2, 2);
-    let first = with_byte(with_byte(one, 8, 1), 9, 0);
-    let bytes = with_byte(with_byte(first, 12, 1), 13, 0);
-    Case {
-        stage,
-        bytes,
-        length: 16,
-        starting: levels(),
-        clock,
-        order: [0; 32],
-    }
+    let mut bytes = example().bytes;
+    bytes[0] = 1;
+    bytes[2] = 2;
+    bytes[8..10].copy_from_slice(&[1, 0]);
+    bytes[12..14].copy_from_slice(&[1, 0]);
+    changed(stage, bytes, 16)
 }
 
 // The number of Order with two places, and whether the case and the places are as they were.
 fn order_line(c: Case) {
     let mut out = [9u8; 2];
     let a = c.order(&mut out);
-    let r = a.reply;
-    number(r.number() as u64);
-    byte(out[0]);
-    byte(out[1]);
-    let after = a.case;
-    yes_no(same_case(c, after));
+    number(number_of(a.reply));
+    numbers(&out);
+    yes_no(c == a.case);
 }
 
 // The number of Table with 32 places, and the values of keys 0 and 1.
 fn table_line(c: Case) {
     let mut out = [9u16; 32];
     let a = c.table(&mut out);
-    let r = a.reply;
-    number(r.number() as u64);
-    value(out[0]);
-    value(out[1]);
-    let after = a.case;
-    yes_no(same_case(c, after));
+    number(number_of(a.reply));
+    numbers(&out[..2]);
+    yes_no(c == a.case);
 }
 
 // A line of a case: load; check of 1 0; order, its two places, case as it was; table, its first two values, case as it was.
@@ -162,46 +143,32 @@ fn decided_ones() {
 // Lists too short and longer than needed: 25, and the further place as it was.
 fn lists() {
     let c = made(Stage::Ordered, 24, 1, 0, 0);
-    let mut short = [9u8; 1];
-    let a = c.order(&mut short);
-    let r = a.reply;
     text(b"order, 1 place; 3 places:");
-    number(r.number() as u64);
-    byte(short[0]);
+    let mut short = [9u8; 1];
+    number(number_of(c.order(&mut short).reply));
+    numbers(&short);
     let mut long = [9u8; 3];
-    let b = c.order(&mut long);
-    let s = b.reply;
-    number(s.number() as u64);
-    byte(long[0]);
-    byte(long[1]);
-    byte(long[2]);
+    number(number_of(c.order(&mut long).reply));
+    numbers(&long);
     end();
 }
 
 fn tables() {
     let c = made(Stage::Ordered, 24, 1, 0, 0);
-    let mut short = [9u16; 31];
-    let a = c.table(&mut short);
-    let r = a.reply;
     text(b"table, 31 places; 33 places:");
-    number(r.number() as u64);
-    value(short[30]);
+    let mut short = [9u16; 31];
+    number(number_of(c.table(&mut short).reply));
+    number(short[30]);
     let mut long = [9u16; 33];
-    let b = c.table(&mut long);
-    let s = b.reply;
-    number(s.number() as u64);
-    value(long[0]);
-    value(long[31]);
-    value(long[32]);
+    number(number_of(c.table(&mut long).reply));
+    numbers(&[long[0], long[31], long[32]]);
     end();
 }
 
 // ---- starting tables
 
 fn with_table(c: Case, starting: [u16; 32]) -> Case {
-    let mut out = c;
-    out.starting = starting;
-    out
+    Case { starting, ..c }
 }
 
 // What a case counts as: 0 fresh, 1 loaded, 2 ordered, 3 no order.
@@ -210,42 +177,31 @@ fn counts_as(c: Case) -> u64 {
         return 0;
     }
     let mut out = [9u8; 2];
-    let a = c.order(&mut out);
-    let r = a.reply;
-    match r.number() {
-        0 => 2,
-        24 => 3,
-        _ => 1,
+    match c.order(&mut out).reply {
+        Ok(()) => 2,
+        Err(Refusal::DecidedWithoutOrder) => 3,
+        Err(_) => 1,
     }
 }
 
-// The same of a case with a table.
-fn count_with(c: Case, starting: [u16; 32]) {
-    number(counts_as(with_table(c, starting)));
-}
-
-// Four that count as fresh.
-fn count_fresh(starting: [u16; 32]) {
-    count_with(made(Stage::Fresh, 24, 1, 0, 0), starting);
-    count_with(damaged(Stage::Loaded, 12, 2), starting);
-    count_with(made(Stage::NoOrder, 1157, 1, 0, 0), starting);
-    count_with(twice(Stage::Ordered), starting);
-}
-
-// Two that count as loaded, two as ordered, and one with no order.
-fn count_others(starting: [u16; 32]) {
-    count_with(made(Stage::Loaded, 24, 1, 0, 0), starting);
-    count_with(made(Stage::Ordered, 24, 0, 0, 0), starting);
-    count_with(made(Stage::Ordered, 24, 1, 0, 255), starting);
-    count_with(made(Stage::Ordered, 24, 0, 1, 0), starting);
-    count_with(made(Stage::NoOrder, 24, 1, 0, 0), starting);
-}
-
+// What each kind counts as beside a table: four that count as fresh; two that count as loaded, two as ordered, and one with no order.
 fn show_counts(name: &[u8], starting: [u16; 32]) {
     text(b"what each kind counts as, from ");
     text(name);
-    count_fresh(starting);
-    count_others(starting);
+    let kinds = [
+        made(Stage::Fresh, 24, 1, 0, 0),
+        damaged(Stage::Loaded, 12, 2),
+        made(Stage::NoOrder, 1157, 1, 0, 0),
+        twice(Stage::Ordered),
+        made(Stage::Loaded, 24, 1, 0, 0),
+        made(Stage::Ordered, 24, 0, 0, 0),
+        made(Stage::Ordered, 24, 1, 0, 255),
+        made(Stage::Ordered, 24, 0, 1, 0),
+        made(Stage::NoOrder, 24, 1, 0, 0),
+    ];
+    for c in kinds {
+        number(counts_as(with_table(c, starting)));
+    }
     end();
 }
 
@@ -258,30 +214,16 @@ fn counts() {
 
 // A case that says that a log has an order.
 fn ordered(log: &[u8], first: u8, second: u8) -> Case {
-    let clock = none();
-    let c = loaded(log);
-    let bytes = c.bytes;
-    let length = c.length;
-    let mut order = [0u8; 32];
-    order[0] = first;
-    order[1] = second;
-    Case {
-        stage: Stage::Ordered,
-        bytes,
-        length,
-        starting: [0; 32],
-        clock,
-        order,
-    }
+    let mut out = loaded(log);
+    out.stage = Stage::Ordered;
+    out.order[0] = first;
+    out.order[1] = second;
+    out
 }
 
 // Whether keys 2 to 30, which no log here writes, have their levels.
-fn kept(table: [u16; 32], starting: [u16; 32]) -> bool {
-    let mut rest = table;
-    rest[0] = starting[0];
-    rest[1] = starting[1];
-    rest[31] = starting[31];
-    same(rest, starting)
+fn kept(table: &[u16; 32], starting: &[u16; 32]) -> bool {
+    table[2..31] == starting[2..31]
 }
 
 // The line of Table from a starting table: its number, the values of keys 0, 1 and 31, whether the others have their levels, and the case as it was.
@@ -289,16 +231,12 @@ fn show_table(name: &[u8], from: &[u8], c: Case, starting: [u16; 32]) {
     let held = with_table(c, starting);
     let mut out = [9u16; 32];
     let a = held.table(&mut out);
-    let r = a.reply;
-    let after = a.case;
     text(name);
     text(from);
-    number(r.number() as u64);
-    value(out[0]);
-    value(out[1]);
-    value(out[31]);
-    yes_no(kept(out, starting));
-    yes_no(same_case(held, after));
+    number(number_of(a.reply));
+    numbers(&[out[0], out[1], out[31]]);
+    yes_no(kept(&out, &starting));
+    yes_no(held == a.case);
     end();
 }
 
@@ -327,8 +265,8 @@ fn main() {
     counts();
     started();
     text(b"clear gives the fresh case of each kind:");
-    yes_no(same_case(damaged(Stage::Ordered, 12, 2).clear(), Case::fresh()));
-    yes_no(same_case(made(Stage::NoOrder, 1157, 1, 2, 3).clear(), Case::fresh()));
+    yes_no(damaged(Stage::Ordered, 12, 2).clear() == Case::fresh());
+    yes_no(made(Stage::NoOrder, 1157, 1, 2, 3).clear() == Case::fresh());
     end();
     times::show_all();
 }

@@ -3,7 +3,6 @@
 use crate::{made, show};
 use checker::{Case, Clock, Stage};
 use samples::lines::{end, text, yes_no};
-use samples::same_case;
 
 // So many entries, and a drift. Behind the first two stand other seconds, and from place 4 on each begin is after its end.
 fn clock_of(count: usize, drift: u32) -> Clock {
@@ -13,22 +12,14 @@ fn clock_of(count: usize, drift: u32) -> Clock {
         end: [0; 32],
         drift,
     };
-    out.begin[0] = 5;
-    out.end[0] = 9;
-    out.begin[1] = 10;
-    out.end[1] = 12;
-    out.begin[2] = 3;
-    out.end[2] = 3;
-    out.begin[3] = 0;
-    out.end[3] = 4294967295;
+    out.begin[..4].copy_from_slice(&[5, 10, 3, 0]);
+    out.end[..4].copy_from_slice(&[9, 12, 3, 4294967295]);
     out
 }
 
 // The case with times.
 fn with_clock(c: Case, clock: Clock) -> Case {
-    let mut out = c;
-    out.clock = clock;
-    out
+    Case { clock, ..c }
 }
 
 // A case that says a stage, with so many entries and a drift. Its order is 1 0.
@@ -135,7 +126,7 @@ fn taken() {
 
 // Whether clear gives the fresh case, which has no times.
 fn cleared(c: Case) {
-    yes_no(same_case(c.clear(), Case::fresh()));
+    yes_no(c.clear() == Case::fresh());
 }
 
 pub(crate) fn show_all() {

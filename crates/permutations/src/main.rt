@@ -3,12 +3,15 @@
 // For each list the log is loaded beside another random starting table, of which the direct replay knows nothing.
 #![tactic(auto)]
 
-use checker::Clock;
-use samples::clocks::{loaded_by, none};
+use samples::acts::Act;
+use samples::clocks::{loaded_by, of_times};
 use samples::lines::{end, number, text};
 use samples::tables::drawn;
+use samples::tallies::add_if;
 use samples::{at, check_number};
+use std::array;
 use std::num::wrapping_add_u64;
+use trial::times::Times;
 
 mod times;
 
@@ -32,37 +35,37 @@ pub(crate) fn chance(h: u64, k: u64) -> u64 {
     mixed(mixed(mixed(wrapping_add_u64(h << 8, k) ^ 88172645463325252)))
 }
 
-// The kind, key and argument of an operation.
+// What an operation does, with which key, and its argument.
 #[derive(Clone, Copy)]
 pub struct Op {
-    pub kind: u8,
+    pub act: Act,
     pub key: u8,
     pub argument: u8,
 }
 
 // A read in one of four: few enough reads that some lists are legal.
-fn kind_of(c: u64) -> u8 {
-    if c / 32 % 4 == 0 { 0 } else { 1 }
+fn act_of(c: u64) -> Act {
+    if c / 32 % 4 == 0 {
+        Act::Read
+    } else {
+        Act::Write
+    }
 }
 
 // A read names one of the four transactions, or 4 for the starting value.
 fn first_op(h: u64, t: u64) -> Op {
     let c = chance(h, t % 4 * 4 + 100);
     Op {
-        kind: kind_of(c),
+        act: act_of(c),
         key: (c / 2 % 2) as u8,
         argument: (c / 4 % 5) as u8,
     }
 }
 
-fn other(key: u8) -> u8 {
-    if key == 0 { 1 } else { 0 }
-}
-
 // A read by transaction t of a key that it has written.
 fn read_back(t: u64, key: u8) -> Op {
     Op {
-        kind: 0,
+        act: Act::Back,
         key,
         argument: (t % 4) as u8,
     }
@@ -74,27 +77,18 @@ fn second_op(h: u64, t: u64) -> Op {
     let c = chance(h, t % 4 * 4 + 101);
     let key = (c / 2 % 2) as u8;
     let argument = (c / 4 % 5) as u8;
-    if a.kind == 1 {
-        if c / 65536 % 5 == 0 {
-            return read_back(t, a.key);
-        }
-        return Op {
-            kind: kind_of(c),
-            key: other(a.key),
+    match a.act {
+        Act::Write if c / 65536 % 5 == 0 => read_back(t, a.key),
+        Act::Write => Op {
+            act: act_of(c),
+            key: if a.key == 0 { 1 } else { 0 },
             argument,
-        };
-    }
-    if key == a.key {
-        return Op {
-            kind: 1,
+        },
+        Act::Read | Act::Back => Op {
+            act: if key == a.key { Act::Write } else { act_of(c) },
             key,
             argument,
-        };
-    }
-    Op {
-        kind: kind_of(c),
-        key,
-        argument,
+        },
     }
 }
 
@@ -104,15 +98,15 @@ fn third_op(h: u64, t: u64) -> Op {
     let b = second_op(h, t);
     let c = chance(h, t % 4 * 4 + 102);
     if c / 65536 % 3 == 0 {
-        if b.kind == 1 {
+        if b.act == Act::Write {
             return read_back(t, b.key);
         }
-        if a.kind == 1 && a.key != b.key {
+        if a.act == Act::Write && a.key != b.key {
             return read_back(t, a.key);
         }
     }
     Op {
-        kind: kind_of(c),
+        act: act_of(c),
         key: 2,
         argument: (c / 4 % 5) as u8,
     }
@@ -121,7 +115,7 @@ fn third_op(h: u64, t: u64) -> Op {
 // A write of a key for each j.
 fn blind_op(t: u64, j: u64) -> Op {
     Op {
-        kind: 1,
+        act: Act::Write,
         key: (j % 3) as u8,
         argument: (t % 4) as u8,
     }
@@ -141,9 +135,9 @@ fn op_of(h: u64, t: u64, j: u64, blind: bool) -> Op {
 
 // Byte f of a body.
 fn op_byte(o: Op, f: u64) -> u8 {
-    let started = o.kind == 0 && o.argument == 4;
+    let started = o.act == Act::Read && o.argument == 4;
     match f {
-        0 => o.kind,
+        0 => o.act.kind(),
         1 => o.key,
         2 => if started { 255 } else { o.argument },
         _ => if started { 255 } else { 0 },
@@ -173,50 +167,39 @@ fn log_byte(h: u64, i: u64, blind: bool) -> u8 {
 }
 
 fn log_of(h: u64, blind: bool) -> [u8; 68] {
-    let mut out = [0u8; 68];
-    let mut i: usize = 0;
-    while i < 68 {
-        out[i] = log_byte(h, i as u64, blind);
-        i += 1;
-    }
-    out
+    array::from_fn(|i| log_byte(h, i as u64, blind))
 }
 
 // ---- the direct replay
 
 // Whether the four numbers are below 4, and no two the same.
-fn is_permutation(list: [u8; 4]) -> bool {
-    let a = list[0];
-    let b = list[1];
-    let c = list[2];
-    let d = list[3];
-    a < 4 && b < 4 && c < 4 && d < 4 && a != b && a != c && a != d && b != c && b != d && c != d
+fn is_permutation(list: &[u8; 4]) -> bool {
+    (0..4u8).all(|t| list.contains(&t))
 }
 
-// Whether transaction a may stand before b: not where one cabinet sent both and b comes first.
-fn may_precede(log: &[u8], a: u8, b: u8) -> bool {
-    if a < b {
-        return true;
+// Whether the cabinets and the clock let transaction a stand before b: not where one cabinet sent both and b comes first, nor where b ended before a began.
+fn may_precede(log: &[u8], times: &Times, a: u8, b: u8) -> bool {
+    let a = usize::from(a);
+    let b = usize::from(b);
+    let one = at(log, 4 + 4 * a) == at(log, 4 + 4 * b);
+    !(one && a > b) && !times.ended_before(b, a)
+}
+
+// Whether each two of the list may stand so.
+fn each_two(log: &[u8], times: &Times, list: &[u8; 4]) -> bool {
+    for (j, b) in list.iter().enumerate() {
+        for a in list.iter().take(j) {
+            if !may_precede(log, times, *a, *b) {
+                return false;
+            }
+        }
     }
-    at(log, 4 + 4 * (a as usize)) != at(log, 4 + 4 * (b as usize))
-}
-
-fn cabinets_kept(log: &[u8], list: [u8; 4]) -> bool {
-    let a = list[0];
-    let b = list[1];
-    let c = list[2];
-    let d = list[3];
-    may_precede(log, a, b)
-        && may_precede(log, a, c)
-        && may_precede(log, a, d)
-        && may_precede(log, b, c)
-        && may_precede(log, b, d)
-        && may_precede(log, c, d)
+    true
 }
 
 // Byte f of body j of transaction t.
 fn field(log: &[u8], t: u8, j: usize, f: usize) -> u8 {
-    at(log, 20 + 12 * (t as usize) + 4 * (j % 3) + f % 4)
+    at(log, 20 + 12 * usize::from(t) + 4 * (j % 3) + f % 4)
 }
 
 // Whether body j of transaction t writes the key.
@@ -226,28 +209,21 @@ fn body_writes(log: &[u8], t: u8, j: usize, key: u8) -> bool {
 
 // Whether one of the first n bodies of transaction t writes the key.
 fn writes(log: &[u8], t: u8, n: usize, key: u8) -> bool {
-    n > 0 && body_writes(log, t, 0, key)
-        || n > 1 && body_writes(log, t, 1, key)
-        || n > 2 && body_writes(log, t, 2, key)
+    (0..n).any(|j| body_writes(log, t, j, key))
 }
 
-// The last writer of the key among the first i transactions of the list, or 255.
-fn last_writer(log: &[u8], list: [u8; 4], i: usize, key: u8) -> u8 {
-    let mut found: u8 = 255;
-    let mut j: usize = 0;
-    while j < i {
-        if writes(log, at(&list, j), 3, key) {
-            found = at(&list, j);
-        }
-        j += 1;
-    }
-    found
+// The last writer of the key among transactions.
+fn last_writer(log: &[u8], before: &[u8], key: u8) -> Option<u8> {
+    before
+        .iter()
+        .rev()
+        .copied()
+        .find(|t| writes(log, *t, 3, key))
 }
 
-// Whether body j of the transaction at place i is explained, if it is a read: by the transaction's own write where that stands before it, else by the
-// last writer among those before.
-fn body_explained(log: &[u8], list: [u8; 4], i: usize, j: usize) -> bool {
-    let t = at(&list, i);
+// Whether body j of transaction t, behind those before it, is explained, if it is a read: by the transaction's own write where that stands before it, else by
+// the last writer among those before, which is 255 where there is none.
+fn body_explained(log: &[u8], before: &[u8], t: u8, j: usize) -> bool {
     if field(log, t, j, 0) == 1 {
         return true;
     }
@@ -256,31 +232,27 @@ fn body_explained(log: &[u8], list: [u8; 4], i: usize, j: usize) -> bool {
     if writes(log, t, j, key) {
         return name == t;
     }
-    last_writer(log, list, i, key) == name
+    name == last_writer(log, before, key).unwrap_or(255)
 }
 
-fn place_explained(log: &[u8], list: [u8; 4], i: usize) -> bool {
-    body_explained(log, list, i, 0)
-        && body_explained(log, list, i, 1)
-        && body_explained(log, list, i, 2)
+// Whether all reads are explained.
+fn explained(log: &[u8], list: &[u8; 4]) -> bool {
+    for (i, t) in list.iter().enumerate() {
+        for j in 0..3 {
+            if !body_explained(log, &list[..i % 4], *t, j) {
+                return false;
+            }
+        }
+    }
+    true
 }
 
 // 13 where the list is no permutation, 100 where it is legal, else 101.
-fn direct(log: &[u8], clock: Clock, list: [u8; 4]) -> u64 {
+fn direct(log: &[u8], times: &Times, list: &[u8; 4]) -> u64 {
     if !is_permutation(list) {
         return 13;
     }
-    if !cabinets_kept(log, list) {
-        return 101;
-    }
-    if !times::kept(clock, list) {
-        return 101;
-    }
-    if place_explained(log, list, 0)
-        && place_explained(log, list, 1)
-        && place_explained(log, list, 2)
-        && place_explained(log, list, 3)
-    {
+    if each_two(log, times, list) && explained(log, list) {
         100
     } else {
         101
@@ -291,7 +263,7 @@ fn direct(log: &[u8], clock: Clock, list: [u8; 4]) -> u64 {
 
 // The histories with a read-back; the lists by what Check says of them; those that would be legal but for the times; those that the direct replay says
 // something else of.
-#[derive(Clone, Copy)]
+#[derive(Clone, Copy, Default)]
 pub struct Tally {
     pub backs: u64,
     pub refused: u64,
@@ -301,56 +273,42 @@ pub struct Tally {
     pub different: u64,
 }
 
-fn more(n: u64, yes: bool) -> u64 {
-    if yes { wrapping_add_u64(n, 1) } else { n }
-}
-
-// One answer more: of Check, of the direct replay, and of the same without times.
-fn told(s: Tally, check: u64, replay: u64, free: u64) -> Tally {
-    Tally {
-        backs: s.backs,
-        refused: more(s.refused, check == 13),
-        legal: more(s.legal, check == 100),
-        illegal: more(s.illegal, check == 101),
-        barred: more(s.barred, check == 101 && free == 100),
-        different: more(s.different, check != replay),
+impl Tally {
+    // One answer more: of Check, of the direct replay, and of the same without times.
+    fn add(&mut self, check: u64, replay: u64, free: u64) {
+        add_if(&mut self.refused, check == 13);
+        add_if(&mut self.legal, check == 100);
+        add_if(&mut self.illegal, check == 101);
+        add_if(&mut self.barred, check == 101 && free == 100);
+        add_if(&mut self.different, check != replay);
     }
-}
 
-// The times of history h in a round.
-fn clock_of(h: u64, r: Round) -> Clock {
-    if r.timed { times::drawn(h) } else { none() }
-}
-
-// List number k: its four numbers are 0 to 3.
-fn one_list(s: Tally, r: Round, h: u64, k: u64) -> Tally {
-    let log = log_of(h, r.blind);
-    let clock = clock_of(h, r);
-    let starting = drawn(wrapping_add_u64(h << 8, k));
-    let list = [
-        (k % 4) as u8,
-        (k / 4 % 4) as u8,
-        (k / 16 % 4) as u8,
-        (k / 64 % 4) as u8,
-    ];
-    let c = loaded_by(&log, &starting, clock);
-    told(
-        s,
-        check_number(c, &list),
-        direct(&log, clock, list),
-        direct(&log, none(), list),
-    )
-}
-
-fn all_lists(s: Tally, r: Round, h: u64) -> Tally {
-    let mut out = s;
-    let mut k: u64 = 0;
-    while k < 256 {
-        let next = one_list(out, r, h, k);
-        out = next;
-        k += 1;
+    // The lists of history h: each has four numbers from 0 to 3.
+    fn add_lists(&mut self, r: Round, h: u64) {
+        let log = log_of(h, r.blind);
+        let times = if r.timed {
+            times::drawn(h)
+        } else {
+            Times::without(0)
+        };
+        let clock = of_times(&times, 4);
+        for k in 0..256 {
+            let starting = drawn(wrapping_add_u64(h << 8, k));
+            let list = [
+                (k % 4) as u8,
+                (k / 4 % 4) as u8,
+                (k / 16 % 4) as u8,
+                (k / 64 % 4) as u8,
+            ];
+            let c = loaded_by(&log, &starting, &clock);
+            self.add(
+                check_number(c, &list),
+                direct(&log, &times, &list),
+                direct(&log, &Times::without(0), &list),
+            );
+        }
+        add_if(&mut self.backs, any_back(&log));
     }
-    out
 }
 
 // Whether body j of transaction t is a read-back.
@@ -358,43 +316,16 @@ fn is_back(log: &[u8], t: u8, j: usize) -> bool {
     field(log, t, j, 0) == 0 && writes(log, t, j, field(log, t, j, 1))
 }
 
-// Whether transaction t has one.
-fn reads_back(log: &[u8], t: u8) -> bool {
-    is_back(log, t, 1) || is_back(log, t, 2)
-}
-
-// Whether history h has one.
-fn any_back(h: u64, blind: bool) -> bool {
-    let log = log_of(h, blind);
-    reads_back(&log, 0) || reads_back(&log, 1) || reads_back(&log, 2) || reads_back(&log, 3)
-}
-
-fn one_history(s: Tally, r: Round, h: u64) -> Tally {
-    let mut out = all_lists(s, r, h);
-    out.backs = more(s.backs, any_back(h, r.blind));
-    out
-}
-
-fn all_histories(n: u64, r: Round) -> Tally {
-    let mut out = Tally {
-        backs: 0,
-        refused: 0,
-        legal: 0,
-        illegal: 0,
-        barred: 0,
-        different: 0,
-    };
-    let mut h: u64 = 0;
-    while h < n {
-        let next = one_history(out, r, h);
-        out = next;
-        h += 1;
-    }
-    out
+// Whether a log has one.
+fn any_back(log: &[u8]) -> bool {
+    (0..4u8).any(|t| is_back(log, t, 1) || is_back(log, t, 2))
 }
 
 fn print(name: &[u8], r: Round) {
-    let t = all_histories(400, r);
+    let mut t = Tally::default();
+    for h in 0..400 {
+        t.add_lists(r, h);
+    }
     text(name);
     text(b", with read-backs");
     number(t.backs);

@@ -6,3 +6,4 @@ pub mod Cabinets
 pub mod RowWords
 pub mod ReadEdges
 pub mod Timing
+pub mod Encodings

@@ -9,7 +9,7 @@ use lib.Dec.{T, eqb, ltb, eqb→eq, ltb→lt, lt→ltb, nltb→le}
 use lib.Bits.{bit_and, bit_or}
 use lib.Count.{count_trailing_zeros}
 use lib.Pow.{pow-lt}
-use lib.ListN.{get_or, take, replicate, length-replicate}
+use lib.ListN.{get_or, replicate, length-replicate}
 use Rattle.model.specs.Lists.{any, fold, up_to, bit, word_of}
 use Rattle.model.specs.History.{History, start, size, is_read, outward, writes, reads}
 use Rattle.model.specs.Polygraph.{good_read, next_of_cabinet, start_read, bad_read, successor, chain_edge, edge, rows}
@@ -22,7 +22,7 @@ use Rattle.model.proofs.Words.{bit_word, word_lt}
 use Rattle.model.proofs.Masks.{bit_or_lem, bit_one, bit_none, same_bits}
 use Rattle.model.proofs.Legal.{writes_small, reads_small, good_reads_lem, good_writes}
 use Rattle.graph.specs.Masks.{put_if, without}
-use Rattle.polygraph.specs.Tables.{writers_of, read_mark, read_marks_of, reads_of, key_in, owner_in, slot_in, put_at, mark_step, Decoded}
+use Rattle.polygraph.specs.Tables.{writers_of, read_mark, read_marks_of, reads_of, key_in, owner_in, slot_in, put_at, mark_step, DecodedTo}
 use Rattle.polygraph.specs.Edges.{cabinet_rows, own_edge, own_edges, read_step}
 use Rattle.graph.proofs.WordLaws.{bit_without}
 use Rattle.polygraph.proofs.Marks.{Puts, sets_on, sets_none, sets_put, sets_end, sets_fold, single_bit, single_small}
@@ -159,8 +159,8 @@ module _ (b : List ℕ) (e : load_number b ≡ 0) where
       reads_in_lem b e s i (mark_low i s t) l t (λ r. eqb i (slot_in W r) && eqb s (owner_in r))
       (λ r p q k y. and_in (eqb i (slot_in W r)) (eqb s (owner_in r)) (eq-eqb (sym q)) (eq-eqb (sym p)))))
 
-  pub marked_all : (writers rs out : List ℕ) (count : ℕ) → Decoded b writers rs count → out ≡ fold (mark_step writers) (replicate 1057 0) (take count rs) → out ≡ M
-  marked_all writers rs out count d p = p ∙ ap₂ (λ x y. fold (mark_step x) (replicate 1057 0) y) d.writers_are d.reads_are ∙ marks_are
+  pub marked_all : (writers rs out : List ℕ) → DecodedTo b writers rs → out ≡ fold (mark_step writers) (replicate 1057 0) rs → out ≡ M
+  marked_all writers rs out d p = p ∙ ap₂ (λ x y. fold (mark_step x) (replicate 1057 0) y) d.writers_are d.reads_are ∙ marks_are
 
   -- ---- the edges of a read
 
@@ -470,7 +470,7 @@ module _ (b : List ℕ) (e : load_number b ≡ 0) where
       (All-imp (Marked b e) (Puts 32 (read_step (eqb enc 2) W M) (read_edge (eqb enc 2))) (edge_puts (eqb enc 2)) (reads_of h) (reads_marked b e)) (cabinet_sets b e))
       (all_edges enc)
 
-  pub known_all : (enc : ℕ) (writers marks rs out : List ℕ) (count : ℕ) → Decoded b writers rs count → marks ≡ M
-      → out ≡ fold (read_step (eqb enc 2) writers marks) (cabinet_rows h) (take count rs) → out ≡ rows h enc
-  known_all enc writers marks rs out count d q p =
-      p ∙ ap₂ (λ x y. fold (read_step (eqb enc 2) x y) (cabinet_rows h) (take count rs)) d.writers_are q ∙ ap (fold (read_step (eqb enc 2) W M) (cabinet_rows h)) d.reads_are ∙ known_are enc
+  pub known_all : (enc : ℕ) (writers marks rs out : List ℕ) → DecodedTo b writers rs → marks ≡ M
+      → out ≡ fold (read_step (eqb enc 2) writers marks) (cabinet_rows h) rs → out ≡ rows h enc
+  known_all enc writers marks rs out d q p =
+      p ∙ ap₂ (λ x y. fold (read_step (eqb enc 2) x y) (cabinet_rows h) rs) d.writers_are q ∙ ap (fold (read_step (eqb enc 2) W M) (cabinet_rows h)) d.reads_are ∙ known_are enc

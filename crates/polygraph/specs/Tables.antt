@@ -103,3 +103,10 @@ pub record Decoded (b writers reads : List ℕ) (count : ℕ) : Type 0 where
   pub reads_are : take count reads ≡ reads_of (history_of b)
   pub room : count ≤ 256
   pub long : length reads ≡ 256
+
+-- the same with the reads alone, and no place behind them
+pub record DecodedTo (b writers reads : List ℕ) : Type 0 where
+  pub loads : load_number b ≡ 0
+  pub writers_are : writers ≡ writers_of (history_of b)
+  pub reads_are : reads ≡ reads_of (history_of b)
+  pub room : length reads ≤ 256

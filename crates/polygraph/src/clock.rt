@@ -4,6 +4,7 @@ ghost use Rattle.model.specs.Times.{times};
 ghost use Rattle.polygraph.specs.Clock.{begun_after, with_clock};
 
 use graph::mask::put_if;
+use logs::times::Times;
 
 // Those that began after a moment.
 fn after(begin: &[u32], moment: u64) -> u32
@@ -11,24 +12,19 @@ fn after(begin: &[u32], moment: u64) -> u32
     ensures { result ≡ begun_after begin.now moment }
 {
     let mut mask: u32 = 0;
-    let mut v: usize = 0;
-    while v < begin.len() {
-        mask = put_if(mask, v as u32, moment < begin[v] as u64);
-        v += 1;
+    for (v, second) in begin.iter().enumerate() {
+        mask = put_if(mask, v as u32, moment < u64::from(*second));
     }
     mask
 }
 
 // The edges go into the row words. Two empty lists, of a window without times, have none.
-pub fn add(begin: &[u32], end: &[u32], drift: u32, out: &mut [u32; 32])
-    requires { (length begin.now ≤ 32) × (length end.now ≤ 32) }
-    ensures { out.new ≡ with_clock (times begin.now end.now drift) out.old }
+pub fn add(clock: Times<'_>, out: &mut [u32; 32])
+    requires { (length clock.begin.now ≤ 32) × (length clock.end.now ≤ 32) }
+    ensures { out.new ≡ with_clock (times clock.entry.begin.now clock.entry.end.now clock.entry.drift) out.old }
 {
-    let mut u: usize = 0;
-    while u < end.len() {
-        let moment = end[u] as u64 + drift as u64;
-        let edges = after(begin, moment);
-        out[u] = out[u] | edges;
-        u += 1;
+    for (u, second) in clock.end.iter().enumerate() {
+        let moment = u64::from(*second) + u64::from(clock.drift);
+        out[u] |= after(clock.begin, moment);
     }
 }

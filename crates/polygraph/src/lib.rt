@@ -5,18 +5,21 @@
 ghost use Rattle.std.specs.Prelude.{◌≡◌, cond, List, eqb, ℕ, ◌+◌, ◌*◌, ◌<◌, ◌≤◌, length, get_or, replicate};
 ghost use Rattle.model.specs.Lists.{bit};
 ghost use Rattle.model.specs.Polygraph.{rows};
-ghost use Rattle.model.specs.Log.{transactions_in, start_at, load_number, history_of};
+ghost use Rattle.model.specs.Log.{transactions_in, start_at, history_of};
 ghost use Rattle.graph.specs.Masks.{put_if};
-ghost use Rattle.logs.specs.Reading.{InLog};
-ghost use Rattle.polygraph.specs.Tables.{writers_of, packed_as, read_marks_of, slot_by, slot_in, SlotsOf, mark_step, Unmarked, DecodedOne, Decoded};
+ghost use Rattle.setting.specs.Encodings.{encoding_number};
+ghost use Rattle.polygraph.specs.Tables.{writers_of, packed_as, read_marks_of, slot_by, slot_in, SlotsOf, mark_step, Unmarked, DecodedOne, Decoded, DecodedTo};
 ghost use Rattle.polygraph.specs.Edges.{next_by, successors_by, cabinet_rows, own_edge, read_step};
 
 use graph::mask::{has, lowest, member, put_if, with, without};
+use logs::Log;
+use setting::Encoding;
 
 pub mod clock;
 
 // Words of the table of reads: word key * 32 + u, below START, has the good readers of the key from u; word START + key has those
 // that read the key at start; word BAD has those with a bad read. The table has MARKS words.
+// Numbers, and no enum: each word has a number in the table anyway (slot_in, read_mark), and a pick between numbers takes no branch.
 const START: u32 = 1024;
 
 const BAD: u32 = 1056;
@@ -59,62 +62,49 @@ fn mark_of(t: usize, kind: usize) -> u32
     (kind as u32) << (t as u32)
 }
 
-// A count of reads after one more operation, which is none where its transaction has written the key by now.
-fn counted(count: usize, written: bool) -> usize
-    requires { count < 256 }
-    ensures { result ≡ cond written count (count + 1) }
-{
-    if written { count } else { count + 1 }
-}
-
 // The operations of transaction t: its writes go into the table, its reads that look at earlier ones behind those before, of which there are `from`.
 // The table has no mark of t at first, so after an operation's own mark t stands at its key for a write and for a read-back alone: any other
 // operation is a read that counts.
 fn decode_transaction(
-    log: &[u8],
+    log: Log<'_>,
     t: usize,
     writers: &mut [u32; 32],
     reads: &mut [u32; 256],
     from: usize,
 ) -> usize
-    requires { InLog log.now t × (t < 32) × (from ≤ start_at log.now t) × (length reads.old ≡ 256) × Unmarked t writers.old }
-    ensures { DecodedOne log.now t from writers.old reads.old writers.new reads.new result }
+    requires { (t < transactions_in log.bytes.now) × (t < 32) × (from ≤ start_at log.bytes.now t) × (length reads.old ≡ 256) × Unmarked t writers.old }
+    ensures { DecodedOne log.entry.bytes.now t from writers.old reads.old writers.new reads.new result }
 {
-    let n = logs::count(log, t);
+    let n = log.count(t);
     let mut count = from;
-    let mut m: usize = 0;
-    while m < n {
-        let o = logs::operation(log, t, m);
-        let key = o.key;
+    for m in 0..n {
+        let o = log.operation(t, m);
         let mark = mark_of(t, o.kind);
-        let w = writers[key] | mark;
-        writers[key] = w;
-        reads[count] = packed(t, key, o.argument);
-        count = counted(count, has(w, t as u32));
-        m += 1;
+        let w = writers[o.key] | mark;
+        writers[o.key] = w;
+        reads[count] = packed(t, o.key, o.argument);
+        if !has(w, t as u32) {
+            count += 1;
+        }
     }
     count
 }
 
 // Bit t of word k of the writers: t writes k. The reads that look at earlier transactions, in the order of the log; how many there are.
-pub fn decode(log: &[u8], writers: &mut [u32; 32], reads: &mut [u32; 256]) -> usize
-    requires { (load_number log.now ≡ 0) × (writers.old ≡ replicate 32 0) × (length reads.old ≡ 256) }
-    ensures { Decoded log.now writers.new reads.new result }
+pub fn decode(log: Log<'_>, writers: &mut [u32; 32], reads: &mut [u32; 256]) -> usize
+    requires { (writers.old ≡ replicate 32 0) × (length reads.old ≡ 256) }
+    ensures { Decoded log.entry.bytes.now writers.new reads.new result }
 {
-    let n = logs::transactions(log);
-    let mut count: usize = 0;
-    let mut t: usize = 0;
-    while t < n {
+    let mut count = 0;
+    for t in 0..log.transactions() {
         count = decode_transaction(log, t, writers, reads, count);
-        t += 1;
     }
     count
 }
 
 // The writers alone.
-pub fn writers(log: &[u8]) -> [u32; 32]
-    requires { load_number log.now ≡ 0 }
-    ensures { result ≡ writers_of (history_of log.now) }
+pub fn writers(log: Log<'_>) -> [u32; 32]
+    ensures { result ≡ writers_of (history_of log.entry.bytes.now) }
 {
     let mut out = [0u32; 32];
     let mut reads = [0u32; 256];
@@ -157,33 +147,28 @@ fn mark_read(read: u32, writers: &[u32; 32], out: &mut [u32; MARKS]) -> u16
 
 // The reads by what they name, and of each read the number of its word, which `known` needs again.
 pub fn read_marks(
-    reads: &[u32; 256],
-    count: usize,
+    reads: &[u32],
     writers: &[u32; 32],
     slots: &mut [u16; 256],
     out: &mut [u32; MARKS],
 )
-    requires { (count ≤ 256) × (out.old ≡ replicate 1057 0) × (length slots.old ≡ 256) }
-    ensures { SlotsOf writers.now reads.now count slots.new × ((b : List ℕ) → Decoded b writers.now reads.now count → out.new ≡ read_marks_of (history_of b)) }
+    requires { (length reads.now ≤ 256) × (out.old ≡ replicate 1057 0) × (length slots.old ≡ 256) }
+    ensures { SlotsOf writers.now reads.now (length reads.now) slots.new × ((b : List ℕ) → DecodedTo b writers.now reads.now → out.new ≡ read_marks_of (history_of b)) }
 {
-    let mut i: usize = 0;
-    while i < count {
-        slots[i] = mark_read(reads[i], writers, out);
-        i += 1;
+    for (i, read) in reads.iter().enumerate() {
+        slots[i] = mark_read(*read, writers, out);
     }
 }
 
 // ---- successors
 
 // The successor of a write, from its good readers and the writers of the key, or n.
+#[tactic(auto, unfolding(crate::specs::Edges::next_by))]
 fn next_of(readers: u32, writers: u32, n: u32) -> u32
     ensures { result ≡ next_by readers writers n }
 {
     let both = readers & writers;
-    if both == 0 {
-        return n;
-    }
-    u32::trailing_zeros(both)
+    if both == 0 { n } else { both.trailing_zeros() }
 }
 
 // The successor of the write of u on key k, or n: word k * 32 + u of the successors of all writes.
@@ -197,19 +182,16 @@ pub fn next_at(n: u32, writers: &[u32; 32], marks: &[u32; MARKS], k: usize, u: u
 // ---- known edges
 
 // The edges from each transaction to the next of the same cabinet.
-fn add_cabinets(log: &[u8], n: usize, out: &mut [u32; 32])
-    requires { (load_number log.now ≡ 0) × (n ≡ transactions_in log.now) × (out.old ≡ replicate 32 0) }
-    ensures { out.new ≡ cabinet_rows (history_of log.now) }
+fn add_cabinets(log: Log<'_>, out: &mut [u32; 32])
+    requires { out.old ≡ replicate 32 0 }
+    ensures { out.new ≡ cabinet_rows (history_of log.entry.bytes.now) }
 {
     let mut last = [32usize; 16];
-    let mut t: usize = 0;
-    while t < n {
-        let c = logs::cabinet(log, t);
+    for t in 0..log.transactions() {
+        let c = log.cabinet(t);
         let before = last[c];
-        let edge = put_if(0, t as u32, before < 32);
-        out[before % 32] = out[before % 32] | edge;
+        out[before % 32] |= put_if(0, t as u32, before < 32);
         last[c] = t;
-        t += 1;
     }
 }
 
@@ -238,39 +220,29 @@ fn add_read(
     let key = (read / 16777216 % 32) as usize;
     let t = read / 65536 % 32;
     let from = (at % 32) as usize;
-    let edge = put_if(0, t, at < START);
-    let own = own_edges(at, t, writers[key], marks[at as usize], chained);
-    out[from] = out[from] | edge;
-    out[t as usize] = out[t as usize] | own;
+    out[from] |= put_if(0, t, at < START);
+    out[t as usize] |= own_edges(at, t, writers[key], marks[at as usize], chained);
 }
 
 // The known edges of a log in an encoding, without those by the office clock, which `clock::add` adds: 32 row words.
 pub fn known(
-    log: &[u8],
-    n: usize,
-    encoding: u8,
-    reads: &[u32; 256],
-    count: usize,
+    log: Log<'_>,
+    encoding: Encoding,
+    reads: &[u32],
     slots: &[u16; 256],
     writers: &[u32; 32],
     marks: &[u32; MARKS],
 ) -> [u32; 32]
-    requires { Decoded log.now writers.now reads.now count × SlotsOf writers.now reads.now count slots.now × (n ≡ transactions_in log.now) × (marks.now ≡ read_marks_of (history_of log.now)) }
-    ensures { result ≡ rows (history_of log.now) encoding }
+    requires { DecodedTo log.bytes.now writers.now reads.now × SlotsOf writers.now reads.now (length reads.now) slots.now × (marks.now ≡ read_marks_of (history_of log.bytes.now)) }
+    ensures { result ≡ rows (history_of log.entry.bytes.now) (encoding_number encoding) }
 {
+    let chained = encoding == Encoding::Chained;
     let mut out = [0u32; 32];
-    add_cabinets(log, n, &mut out);
-    let mut i: usize = 0;
-    while i < count {
-        add_read(
-            reads[i],
-            slots[i] as u32,
-            encoding == 2,
-            writers,
-            marks,
-            &mut out,
-        );
-        i += 1;
+    add_cabinets(log, &mut out);
+    // By an index: over a zip of the two it is slower by a quarter.
+    for (i, read) in reads.iter().enumerate() {
+        let at = u32::from(slots[i]);
+        add_read(*read, at, chained, writers, marks, &mut out);
     }
     out
 }

@@ -7,7 +7,7 @@ use Prim.Native.Nat.{ℕ, ◌+◌, ◌^◌, ◌≤◌, ◌<◌}
 use native.Mathlib.Omega.{arith}
 use mathlib.Core.Path.{◌≡◌, refl, sym, ap, ap₂, subst, ◌∙◌}
 use mathlib.Core.Logic.{⊎_elim, ◌≢◌}
-use mathlib.Core.Bool.{Bool, true, false, cond}
+use mathlib.Core.Bool.{Bool, true, false, cond, true≢false}
 use mathlib.Core.List.{List}
 use lib.Dec.{T, eqb, ltb, ltb→lt, nltb→le}
 use lib.ListN.{length, get_or, set, take, length-set, get_or-eq_default}
@@ -22,8 +22,9 @@ use Rattle.graph.proofs.Rows.{side_tidy}
 use Rattle.graph.proofs.SideLaws.{held_same}
 use Rattle.listing.proofs.Lists.{items_length}
 use Rattle.listing.specs.Candidates.{item_by, items_by}
-use Rattle.pruning.specs.declared.Resolution.{Resolution}
-use Rattle.pruning.specs.Passes.{resolution_of, rest, pruned}
+use Rattle.std.specs.Prelude.{Option, None, Some, is_some}
+use Rattle.graph.specs.declared.Side.{Side}
+use Rattle.pruning.specs.Passes.{resolution_of, with_added, rest, pruned}
 use Rattle.pruning.specs.Numbers.{resolved, Resolves, PrunedTo}
 use Rattle.pruning.proofs.Steps.{graph, pass_tidy, rest_start, rest_stays, rest_drops, rest_over, rest_end, pruned_step}
 
@@ -76,28 +77,24 @@ module _ (t : List ℕ) where
 -- ---- one constraint resolved
 
 module _ (g : List ℕ) (c : Constraint) where
-  resolved_none : (resolution_of g c).drops ≡ false → resolved g c ≡ g
+  resolved_none : resolution_of g c ≡ None → resolved g c ≡ g
   unfolding resolved
-  resolved_none e = ap (λ (b : Bool). cond b (with_side g (resolution_of g c).from (resolution_of g c).to) g) e
+  resolved_none e = ap (λ (o : Option Side). with_added g o) e
 
-  resolved_side : (resolution_of g c).drops ≡ true → resolved g c ≡ with_side g (resolution_of g c).from (resolution_of g c).to
+  resolved_side : (v : Side) → resolution_of g c ≡ Some v → resolved g c ≡ with_side g v.from v.to
   unfolding resolved
-  resolved_side e = ap (λ (b : Bool). cond b (with_side g (resolution_of g c).from (resolution_of g c).to) g) e
+  resolved_side v e = ap (λ (o : Option Side). with_added g o) e
 
-  module _ (v : Resolution) (is : v ≡ resolution_of g c) where
-    pub stays : (ws : List ℕ) → ws ≡ reach g → v.drops ≡ false → Resolves g c false ws
-    stays ws closed e =
-        let d : (resolution_of g c).drops ≡ false = ap (λ (w : Resolution). w.drops) (sym is) ∙ e in
-        record { drops_is = sym d; rows_are = closed ∙ ap reach (sym (resolved_none d)) }
+  pub stays : None ≡ resolution_of g c → (ws : List ℕ) → ws ≡ reach g → Resolves g c false ws
+  stays is ws closed = record { drops_is = ap (λ (o : Option Side). is_some o) is; rows_are = closed ∙ ap reach (sym (resolved_none (sym is))) }
 
+  module _ (v : Side) (is : Some v ≡ resolution_of g c) where
     -- the other side is added
-    pub drops : (us : List ℕ) → us ≡ reach (with_side g v.from v.to) → v.drops ≡ true → Resolves g c true us
-    drops us grown e =
-        let d : (resolution_of g c).drops ≡ true = ap (λ (w : Resolution). w.drops) (sym is) ∙ e in
-        record { drops_is = sym d; rows_are = grown ∙ ap (λ (w : Resolution). reach (with_side g w.from w.to)) is ∙ ap reach (sym (resolved_side d)) }
+    pub drops : (us : List ℕ) → us ≡ reach (with_side g v.from v.to) → Resolves g c true us
+    drops us grown = record { drops_is = ap (λ (o : Option Side). is_some o) is; rows_are = grown ∙ ap reach (sym (resolved_side v (sym is))) }
 
     -- it is there already
-    pub drops_held : (ws : List ℕ) → ws ≡ reach g → Tidy g → v.from < 2 ^ 32 → v.to < 32 → side_in ws v.from v.to ≡ true → v.drops ≡ true → Resolves g c true ws
+    pub drops_held : (ws : List ℕ) → ws ≡ reach g → Tidy g → v.from < 2 ^ 32 → v.to < 32 → side_in ws v.from v.to ≡ true → Resolves g c true ws
     drops_held ws closed ti small low held =
         drops ws (closed ∙ sym (held_same g v.from v.to ti small low (subst T (sym (sym (ap (λ (x : List ℕ). side_in x v.from v.to) closed) ∙ held)) tt)))
 
@@ -145,26 +142,32 @@ module _ (t ws₀ ks₀ : List ℕ) (n : ℕ) where
     at_i = items_at t ks n i h
 
     going_stays : (us : List ℕ) → Resolves e c false us → Going g (i + 1) (j + 1) moves us
-    going_stays us r = record {
-      edges = e;
-      closed = r.rows_are ∙ ap reach (resolved_none e c (sym r.drops_is));
-      tidy = s.tidy;
-      same = ap (λ (x : List Constraint). rest e x (i + 1) (j + 1) n) (items_set t ks n i j low h)
-          ∙ rest_stays e l i j n low h (omega (arith, items_length t ks n)) (ap (λ (x : Constraint). (resolution_of e x).drops) at_i ∙ sym r.drops_is) ∙ s.same;
-    }
+    going_stays us r = go (resolution_of e c) refl r.drops_is
+      where
+        go : (o : Option Side) → resolution_of e c ≡ o → false ≡ is_some o → Going g (i + 1) (j + 1) moves us
+        go None is f = record {
+          edges = e;
+          closed = r.rows_are ∙ ap reach (resolved_none e c is);
+          tidy = s.tidy;
+          same = ap (λ (x : List Constraint). rest e x (i + 1) (j + 1) n) (items_set t ks n i j low h)
+              ∙ rest_stays e l i j n low h (omega (arith, items_length t ks n)) (ap (resolution_of e) at_i ∙ is) ∙ s.same;
+        }
+        go (Some v) is f = absurd (true≢false (sym f))
 
     going_drops : (us : List ℕ) → Resolves e c true us → Going g (i + 1) j moves us
-    going_drops us r =
-        let v = resolution_of e c in
-        let e' = with_side e v.from v.to in
-        record {
-          edges = e';
-          closed = r.rows_are ∙ ap reach (resolved_side e c (sym r.drops_is));
-          tidy = side_tidy e v.from v.to;
-          same = ap (λ (x : List Constraint). rest e' x (i + 1) j n) (items_set t ks n i j low h) ∙ rest_over e' l i j n (get_or l i no_constraint) low
-              ∙ sym (rest_drops e l i j n v.from v.to h (omega (arith, items_length t ks n))
-              (ap (resolution_of e) at_i ∙ ap (λ (d : Bool). record { drops = d; from = v.from; to = v.to }) (sym r.drops_is))) ∙ s.same;
-        }
+    going_drops us r = go (resolution_of e c) refl r.drops_is
+      where
+        go : (o : Option Side) → resolution_of e c ≡ o → true ≡ is_some o → Going g (i + 1) j moves us
+        go None is f = absurd (true≢false f)
+        go (Some v) is f =
+            let e' = with_side e v.from v.to in
+            record {
+              edges = e';
+              closed = r.rows_are ∙ ap reach (resolved_side e c v is);
+              tidy = side_tidy e v.from v.to;
+              same = ap (λ (x : List Constraint). rest e' x (i + 1) j n) (items_set t ks n i j low h) ∙ rest_over e' l i j n (get_or l i no_constraint) low
+                  ∙ sym (rest_drops e l i j n v h (omega (arith, items_length t ks n)) (ap (resolution_of e) at_i ∙ is)) ∙ s.same;
+            }
 
   -- one step: it moves to the front, and counts unless it is dropped
   pub passing_next : (i j k : ℕ) (ks ws us : List ℕ) (r : Bool) → i < n → Passing i j ks ws → ((g : List ℕ) → ws ≡ reach g → Tidy g → Resolves g (item_by t (get_or ks i 0)) r us) → k ≡ cond r 0 1

@@ -19,8 +19,9 @@ use Rattle.model.specs.RowWords.{Tidy}
 use Rattle.graph.proofs.Rows.{side_tidy}
 use Rattle.model.proofs.Basics.{eqb_ne}
 use Rattle.model.proofs.Loops.{pass-A, pass-B, pass_holds}
-use Rattle.pruning.specs.declared.Resolution.{Resolution}
-use Rattle.pruning.specs.Passes.{LowTargets, picked, resolution, resolution_of, part, prepend, rest, pruned}
+use Rattle.std.specs.Prelude.{Option, None, Some, IfSome}
+use Rattle.graph.specs.declared.Side.{Side}
+use Rattle.pruning.specs.Passes.{LowTargets, resolution, resolution_of, with_added, part, prepend, rest, pruned}
 
 -- ---- the verdicts
 
@@ -31,45 +32,64 @@ module _ (g : List ℕ) (c : Constraint) where
   abbrev off_b : Bool
   off_b = closed_off g c.fromB c.toB
 
-  pub resolution_is : (a b : Bool) (x y : ℕ) → a ≡ off_a → b ≡ off_b → x ≡ picked a b c.fromB c.fromA → y ≡ picked a b c.toB c.toA → record { drops = a || b; from = x; to = y } ≡ resolution_of g c
-  unfolding resolution_of resolution
-  resolution_is a b x y ea eb ex ey = ap₂ (λ (f t : ℕ). record { drops = a || b; from = f; to = t }) ex ey ∙ ap₂ (λ (a b : Bool). resolution a b c) ea eb
+  module _ (a b : Bool) (ea : a ≡ off_a) (eb : b ≡ off_b) where
+    resolution_is : resolution a b c ≡ resolution_of g c
+    unfolding resolution_of
+    resolution_is = ap₂ (λ (a b : Bool). resolution a b c) ea eb
+
+    pub judged_none : (a || b) ≡ false → None ≡ resolution_of g c
+    unfolding resolution
+    judged_none n = go a b n ∙ resolution_is
+      where
+        go : (a b : Bool) → (a || b) ≡ false → None ≡ resolution a b c
+        go true b n = absurd (true≢false n)
+        go false true n = absurd (true≢false n)
+        go false false n = refl
+
+    pub judged_b : a ≡ true → Some (record { from = c.fromB; to = c.toB }) ≡ resolution_of g c
+    unfolding resolution
+    judged_b t = sym (ap (λ (x : Bool). resolution x b c) t) ∙ resolution_is
+
+    pub judged_a : (a || b) ≡ true → a ≡ false → Some (record { from = c.fromA; to = c.toA }) ≡ resolution_of g c
+    unfolding resolution
+    judged_a o n = go a b o n ∙ resolution_is
+      where
+        go : (a b : Bool) → (a || b) ≡ true → a ≡ false → Some (record { from = c.fromA; to = c.toA }) ≡ resolution a b c
+        go true b o n = absurd (true≢false n)
+        go false true o n = refl
+        go false false o n = absurd (true≢false (sym o))
 
   -- what the resolution makes of the pass from this constraint on
-  pub pass_stays : (cs : List Constraint) → (resolution_of g c).drops ≡ false → pass g (c ∷ cs) ≡ prepend (c ∷ []) (pass g cs)
-  unfolding resolution_of resolution picked
+  pub pass_stays : (cs : List Constraint) → resolution_of g c ≡ None → pass g (c ∷ cs) ≡ prepend (c ∷ []) (pass g cs)
+  unfolding resolution_of resolution
   pass_stays cs = go off_a off_b (λ x. x) (λ x. x) (λ x. x) (λ x. x)
     where
-      go : (a b : Bool) → (T a → T off_a) → (T (not a) → T (not off_a)) → (T b → T off_b) → (T (not b) → T (not off_b)) → (resolution a b c).drops ≡ false → pass g (c ∷ cs) ≡ prepend (c ∷ []) (pass g cs)
-      go true b ay an by bn e = absurd (true≢false e)
-      go false true ay an by bn e = absurd (true≢false e)
+      go : (a b : Bool) → (T a → T off_a) → (T (not a) → T (not off_a)) → (T b → T off_b) → (T (not b) → T (not off_b)) → resolution a b c ≡ None → pass g (c ∷ cs) ≡ prepend (c ∷ []) (pass g cs)
+      go true b ay an by bn e = cc
+      go false true ay an by bn e = cc
       go false false ay an by bn e = pass_holds g c cs (an tt) (bn tt)
 
-  pub pass_drops : (cs : List Constraint) (f t : ℕ) → resolution_of g c ≡ record { drops = true; from = f; to = t } → pass g (c ∷ cs) ≡ pass (with_side g f t) cs
-  unfolding resolution_of resolution picked
-  pass_drops cs f t = go off_a off_b (λ x. x) (λ x. x) (λ x. x) (λ x. x)
+  pub pass_drops : (cs : List Constraint) (s : Side) → resolution_of g c ≡ Some s → pass g (c ∷ cs) ≡ pass (with_side g s.from s.to) cs
+  unfolding resolution_of resolution
+  pass_drops cs s = go off_a off_b (λ x. x) (λ x. x) (λ x. x) (λ x. x)
     where
-      side : (v w : Resolution) → v ≡ w → pass (with_side g v.from v.to) cs ≡ pass (with_side g w.from w.to) cs
-      side v w e = ap (λ (x : Resolution). pass (with_side g x.from x.to) cs) e
+      side : (v w : Option Side) → v ≡ w → pass (with_added g v) cs ≡ pass (with_added g w) cs
+      side v w e = ap (λ (x : Option Side). pass (with_added g x) cs) e
 
-      go : (a b : Bool) → (T a → T off_a) → (T (not a) → T (not off_a)) → (T b → T off_b) → (T (not b) → T (not off_b)) → resolution a b c ≡ record { drops = true; from = f; to = t } → pass g (c ∷ cs) ≡ pass (with_side g f t) cs
+      go : (a b : Bool) → (T a → T off_a) → (T (not a) → T (not off_a)) → (T b → T off_b) → (T (not b) → T (not off_b)) → resolution a b c ≡ Some s → pass g (c ∷ cs) ≡ pass (with_side g s.from s.to) cs
       go true b ay an by bn e = pass-A g c cs (ay tt) ∙ side _ _ e
       go false true ay an by bn e = pass-B g c cs (an tt) (by tt) ∙ side _ _ e
-      go false false ay an by bn e = absurd (true≢false (sym (ap (λ (x : Resolution). x.drops) e)))
+      go false false ay an by bn e = cc
 
 -- the target of the side that is added is a transaction's number
--- where neither side is closed off there is no side to add
-pub picked_none : (a b : Bool) (x y : ℕ) → (a || b) ≡ false → 0 ≡ picked a b x y
-unfolding picked
-picked_none true b x y e = absurd (subst T e tt)
-picked_none false true x y e = absurd (subst T e tt)
-picked_none false false x y e = refl
-
-pub picked_low : (a b : Bool) (c : Constraint) → LowTargets c → picked a b c.toB c.toA < 32
-unfolding picked
-picked_low true b c p = p.1
-picked_low false true c p = p.0
-picked_low false false c p = omega arith
+pub side_low : (g : List ℕ) (c : Constraint) (s : Side) → LowTargets c → resolution_of g c ≡ Some s → s.to < 32
+unfolding resolution_of resolution
+side_low g c s p e = subst (λ (o : Option Side). IfSome o (λ s. s.to < 32)) e (go (closed_off g c.fromA c.toA) (closed_off g c.fromB c.toB))
+  where
+    go : (a b : Bool) → IfSome (resolution a b c) (λ s. s.to < 32)
+    go true b = p.1
+    go false true = p.0
+    go false false = tt
 
 -- ---- what is left of a pass
 
@@ -86,7 +106,7 @@ pub rest_start : (g : List ℕ) (l : List Constraint) (end : ℕ) → rest g l 0
 unfolding rest
 rest_start g l end = let e : end - 0 ≡ end = omega arith in ap (λ (m : ℕ). pass g (take m l)) e
 
-pub rest_stays : (g : List ℕ) (l : List Constraint) (i j end : ℕ) → j ≤ i → i < end → end ≤ length l → (resolution_of g (get_or l i no_constraint)).drops ≡ false
+pub rest_stays : (g : List ℕ) (l : List Constraint) (i j end : ℕ) → j ≤ i → i < end → end ≤ length l → resolution_of g (get_or l i no_constraint) ≡ None
     → rest g (set l j (get_or l i no_constraint)) (i + 1) (j + 1) end ≡ rest g l i j end
 unfolding rest
 rest_stays g l i j end low h long stays =
@@ -98,12 +118,12 @@ rest_stays g l i j end low h long stays =
     ∙ ap (graph p.known) (append_assoc (take j l) (c ∷ []) p.choices)
     ∙ sym (ap (λ (ys : List Constraint). prepend (take j l) (pass g ys)) (part_cons l i end h (omega arith)) ∙ ap (prepend (take j l)) (pass_stays g c (part l (i + 1) end) stays))
 
-pub rest_drops : (g : List ℕ) (l : List Constraint) (i j end f t : ℕ) → i < end → end ≤ length l → resolution_of g (get_or l i no_constraint) ≡ record { drops = true; from = f; to = t }
-    → rest g l i j end ≡ rest (with_side g f t) l (i + 1) j end
+pub rest_drops : (g : List ℕ) (l : List Constraint) (i j end : ℕ) (s : Side) → i < end → end ≤ length l → resolution_of g (get_or l i no_constraint) ≡ Some s
+    → rest g l i j end ≡ rest (with_side g s.from s.to) l (i + 1) j end
 unfolding rest
-rest_drops g l i j end f t h long drops =
+rest_drops g l i j end s h long drops =
     ap (λ (ys : List Constraint). prepend (take j l) (pass g ys)) (part_cons l i end h (omega arith))
-    ∙ ap (prepend (take j l)) (pass_drops g (get_or l i no_constraint) (part l (i + 1) end) f t drops)
+    ∙ ap (prepend (take j l)) (pass_drops g (get_or l i no_constraint) (part l (i + 1) end) s drops)
 
 -- what is written among those that are passed changes nothing
 pub rest_over : (g : List ℕ) (l : List Constraint) (i j end : ℕ) (c : Constraint) → j ≤ i → rest g (set l j c) (i + 1) j end ≡ rest g l (i + 1) j end

@@ -2,39 +2,28 @@
 --     Upto, upto_none, upto_next, upto_hit, upto_stop      a skim that stands at i, with j kept
 --     Stands, stands_start, stands_next, stands_end        the passes at a place
 --     todo, todo_less      what is left to do falls with each turn
-use Prim.Native.Nat.{ℕ, zero, suc, ◌+◌, ◌-◌, ◌^◌, ◌≤◌, ◌<◌}
+use Prim.Native.Nat.{ℕ, zero, suc, ◌+◌, ◌-◌, ◌≤◌, ◌<◌}
 use native.Mathlib.Omega.{arith}
 use mathlib.Core.Path.{◌≡◌, refl, sym, ap, ap₂, subst, ◌∙◌}
 use mathlib.Core.Logic.{⊎_elim, ◌≢◌}
-use mathlib.Core.Bool.{Bool, true, false, not, cond, true≢false, ◌&&◌, ◌||◌}
+use mathlib.Core.Bool.{Bool, true, false, not, cond}
 use mathlib.Core.List.{List}
 use lib.Dec.{T, eqb, ltb, ltb→lt, nltb→le}
-use lib.Bits.{bit_or}
 use lib.ListN.{length, get_or, set, take, drop, length-take, length-set}
-use lib.Seq.{drop-drop, drop-set-lt, get_or-set_same, get_or-set_other, ext_get_or}
-use Rattle.model.specs.Lists.{bit, word_of}
+use lib.Seq.{drop-drop, drop-set-lt, get_or-set_same, get_or-set_other}
 use Rattle.model.specs.declared.Constraint.{Constraint}
 use Rattle.model.specs.Lent.{no_constraint}
-use Rattle.model.specs.Polygraph.{Polygraph, row, has, with_side, reach}
-use Rattle.model.proofs.Basics.{decide, true_eq, false_eq, ne_eqb, eq-eqb, same?}
-use Rattle.model.proofs.Words.{length_up_to, get_or_up_to}
-use Rattle.model.proofs.Masks.{bit_none}
-use Rattle.graph.specs.Bodies.{pointed}
-use Rattle.graph.proofs.Rows.{Small, point_is}
-use Rattle.pruning.specs.declared.Resolution.{Resolution}
+use Rattle.model.specs.Polygraph.{Polygraph, reach}
+use Rattle.model.proofs.Basics.{true_eq, false_eq, ne_eqb, eq-eqb, same?}
+use Rattle.std.specs.Prelude.{Option, None, Some, MatchOption}
+use Rattle.graph.specs.declared.Side.{Side}
 use Rattle.pruning.specs.declared.Place.{Place}
 use Rattle.pruning.specs.declared.Hit.{Hit}
-use Rattle.pruning.specs.Passes.{LowTargets, Aims, picked, resolution, resolution_of, choose_place, first_place, next_place, PlaceWithin, rest, pruned, settled, Skimmed, Pruning}
+use Rattle.pruning.specs.Passes.{LowTargets, Aims, resolution_of, with_added, choose_place, first_place, next_place, PlaceWithin, rest, pruned, settled, Skimmed, Pruning}
 use Rattle.pruning.proofs.Counts.{HitWithin, start_counts, skim_counts, hit_counts, new_counts, last_counts}
-use Rattle.pruning.proofs.Steps.{graph, picked_low, rest_start, rest_stays, rest_drops, rest_end, pruned_step}
+use Rattle.pruning.proofs.Steps.{graph, side_low, rest_start, rest_stays, rest_drops, rest_end, pruned_step}
 
 -- ---- a skim
-
-idle_two : (a b : Bool) (c : Constraint) → (resolution a b c).drops ≡ false → ((resolution a b c).from ≡ 0) × ((resolution a b c).to ≡ 0)
-unfolding resolution picked
-idle_two true b c n = absurd (true≢false n)
-idle_two false true c n = absurd (true≢false n)
-idle_two false false c n = (refl, refl)
 
 aims_set : (l : List Constraint) (i j end : ℕ) → j ≤ i → i < end → end ≤ length l → Aims l end → Aims (set l j (get_or l i no_constraint)) end
 aims_set l i j end low h long aims k less =
@@ -56,10 +45,9 @@ module _ (closed : List ℕ) (ys : List Constraint) (at kept end : ℕ) where
   pub upto_none : kept ≤ at → at ≤ end → Aims ys end → Upto at kept ys
   upto_none a b c = record { low = omega arith; high = b; behind = a; grown = refl; len = refl; back = refl; aims = c; same = λ g e. refl }
 
-  module _ (i j : ℕ) (l : List Constraint) (v : Resolution) (u : Upto i j l) (long : end ≤ length ys) (says : (g : List ℕ) → closed ≡ reach g → v ≡ resolution_of g (get_or l i no_constraint)) where
-    pub upto_next : i < end → v.drops ≡ false → Upto (i + 1) (j + 1) (set l j (get_or l i no_constraint))
-    unfolding resolution_of
-    upto_next h stays = record {
+  module _ (i j : ℕ) (l : List Constraint) (u : Upto i j l) (long : end ≤ length ys) (h : i < end) where
+    pub upto_next : ((g : List ℕ) → closed ≡ reach g → None ≡ resolution_of g (get_or l i no_constraint)) → Upto (i + 1) (j + 1) (set l j (get_or l i no_constraint))
+    upto_next says = record {
       low = omega (arith, u.low);
       high = omega arith;
       behind = omega (arith, u.behind);
@@ -67,17 +55,12 @@ module _ (closed : List ℕ) (ys : List Constraint) (at kept end : ℕ) where
       len = length-set l j (get_or l i no_constraint) ∙ u.len;
       back = drop-set-lt end l j (get_or l i no_constraint) (omega (arith, u.behind)) ∙ u.back;
       aims = aims_set l i j end u.behind h (omega (arith, u.len)) u.aims;
-      same = λ g e. rest_stays g l i j end u.behind h (omega (arith, u.len)) (sym (ap (λ (w : Resolution). w.drops) (says g e)) ∙ stays) ∙ u.same g e;
+      same = λ g e. rest_stays g l i j end u.behind h (omega (arith, u.len)) (sym (says g e)) ∙ u.same g e;
     }
 
-    pub upto_idle : v.drops ≡ false → (g : List ℕ) → closed ≡ reach g → (v.from ≡ 0) × (v.to ≡ 0)
-    unfolding resolution_of
-    upto_idle stays g e =
-        let z = idle_two _ _ (get_or l i no_constraint) (sym (ap (λ (w : Resolution). w.drops) (says g e)) ∙ stays) in
-        (ap (λ (w : Resolution). w.from) (says g e) ∙ z.0, ap (λ (w : Resolution). w.to) (says g e) ∙ z.1)
-
-    pub upto_hit : i < end → v.drops ≡ true → (g : List ℕ) → closed ≡ reach g → Skimmed g ys at kept end (record { at = i; kept = j; from = v.from; to = v.to }) l
-    upto_hit h drops g e = record {
+    pub upto_hit : (s : Side) → ((g : List ℕ) → closed ≡ reach g → Some s ≡ resolution_of g (get_or l i no_constraint))
+        → (g : List ℕ) → closed ≡ reach g → Skimmed g ys at kept end (record { at = i; kept = j; side = Some s }) l
+    upto_hit s says g e = record {
       low = u.low;
       high = u.high;
       behind = u.behind;
@@ -85,47 +68,28 @@ module _ (closed : List ℕ) (ys : List Constraint) (at kept end : ℕ) where
       same = u.same g e;
       back = u.back;
       aims = u.aims;
-      hit = λ _. sym (says g e) ∙ ap (λ (d : Bool). record { drops = d; from = v.from; to = v.to }) drops;
-      stop = λ over. absurd (omega arith);
+      ends = (h, sym (says g e));
     }
 
-  -- a resolution that adds no edges
-  abbrev pub Idle : Resolution → Type 0
-  Idle w = (g : List ℕ) → closed ≡ reach g → (w.from ≡ 0) × (w.to ≡ 0)
-
-  pub upto_stop : (i j : ℕ) (l : List Constraint) (w : Resolution) → Upto i j l → Idle w → end ≤ i → (g : List ℕ) → closed ≡ reach g → Skimmed g ys at kept end (record { at = i; kept = j; from = w.from; to = w.to }) l
-  upto_stop i j l w u idle over g e = record {
-    low = u.low;
-    high = u.high;
-    behind = u.behind;
-    grown = u.grown;
-    same = u.same g e;
+  pub upto_stop : (i j : ℕ) (l : List Constraint) → Upto i j l → i ≡ end → (g : List ℕ) → closed ≡ reach g → Skimmed g ys at kept end (record { at = end; kept = j; side = None }) l
+  upto_stop i j l u over g e = record {
+    low = omega (arith, u.low);
+    high = omega arith;
+    behind = omega (arith, u.behind);
+    grown = omega (arith, u.grown);
+    same = ap (λ (k : ℕ). rest g l k j end) (sym over) ∙ u.same g e;
     back = u.back;
     aims = u.aims;
-    hit = λ less. absurd (omega arith);
-    stop = λ _. idle g e;
+    ends = omega arith;
   }
 
 -- the target of the side that is added is a transaction's number
-pub to_small : (g : List ℕ) (ys zs : List Constraint) (at kept end : ℕ) (h : Hit) → Skimmed g ys at kept end h zs → h.to < 32
-unfolding resolution_of resolution
-to_small g ys zs at kept end h k =
-    ⊎_elim (λ (t : T (ltb h.at end)). let less = ltb→lt h.at end t in subst (λ (v : Resolution). v.to < 32) (k.hit less) (picked_low _ _ (get_or zs h.at no_constraint) (k.aims h.at less)))
-    (λ t. omega (arith, (k.stop (nltb→le h.at end t)).1)) (decide (ltb h.at end))
+pub to_small : (g : List ℕ) (ys zs : List Constraint) (at kept end : ℕ) (h : Hit) → Skimmed g ys at kept end h zs → (s : Side) → h.side ≡ Some s → s.to < 32
+to_small g ys zs at kept end h k s is =
+    let x = subst (λ (o : Option Side). MatchOption o (end ≤ h.at) (λ s. (h.at < end) × (resolution_of g (get_or zs h.at no_constraint) ≡ Some s))) is k.ends in
+    side_low g (get_or zs h.at no_constraint) s (k.aims h.at x.0) x.1
 
 -- ---- the passes
-
--- no edges are added
-side_none : (g : List ℕ) → length g ≡ 32 → Small g → with_side g 0 0 ≡ g
-unfolding with_side pointed
-side_none g long small =
-    ext_get_or 0 (with_side g 0 0) g (length_up_to word 32 ∙ sym long)
-    (λ u l.
-    let u32 : u < 32 = omega (arith, length_up_to word 32) in
-    get_or_up_to word 0 32 u u32 ∙ sym (point_is g 0 0 u small (omega arith)) ∙ ap (λ (b : Bool). cond b (bit_or (row g u) (2 ^ 0)) (row g u)) (bit_none u))
-  where
-    word : ℕ → ℕ
-    word u = word_of 32 (λ v. has g u v || (bit 0 u && eqb v 0))
 
 -- the passes from a pass that stands in the middle, or is the last and over
 unfoldable pub onward : Bool → List ℕ → List Constraint → ℕ → ℕ → ℕ → Polygraph
@@ -175,7 +139,7 @@ module _ (rows : List ℕ) (ys : List Constraint) (n pruning : ℕ) where
       }
 
   module _ (g : List ℕ) (l zs : List Constraint) (p : Place) (h : Hit) (s : Stands g l p) (on : p.on ≡ true) (k : Skimmed g l p.at p.kept p.end h zs)
-      (len : length zs ≡ length ys) (fits : n ≤ length ys) (long : length g ≡ 32) (small : Small g) where
+      (len : length zs ≡ length ys) (fits : n ≤ length ys) where
     abbrev q : Polygraph
     q = rest g zs h.at h.kept p.end
 
@@ -198,7 +162,14 @@ module _ (rows : List ℕ) (ys : List Constraint) (n pruning : ℕ) where
             ap (λ (x : ℕ). drop x zs) d ∙ sym (drop-drop (n - m) m zs) ∙ ap (drop (n - m)) e ∙ drop-drop (n - m) m l ∙ ap (λ (x : ℕ). drop x l) (sym d)
 
     abbrev Next : Place → Type 0
-    Next r = Stands (with_side g h.from h.to) zs r
+    Next r = Stands (with_added g h.side) zs r
+
+    dropped_one : h.at < p.end → q ≡ rest (with_added g h.side) zs (h.at + 1) h.kept p.end
+    dropped_one less = go h.side k.ends
+      where
+        go : (o : Option Side) → MatchOption o (p.end ≤ h.at) (λ s. (h.at < p.end) × (resolution_of g (get_or zs h.at no_constraint) ≡ Some s)) → q ≡ rest (with_added g o) zs (h.at + 1) h.kept p.end
+        go None over = absurd (omega arith)
+        go (Some v) x = rest_drops g zs h.at h.kept p.end v less (omega (arith, s.inside.top)) x.1
 
     hit_on : h.at < p.end → Next (record { at = h.at + 1; kept = h.kept; end = p.end; on = true })
     unfolding onward
@@ -207,12 +178,16 @@ module _ (rows : List ℕ) (ys : List Constraint) (n pruning : ℕ) where
       len = len;
       back = back_n;
       aims = k.aims;
-      known = stops ∙ ap (λ (x : Polygraph). cond (eqb (length x.choices) p.end) x (pruned x)) (rest_drops g zs h.at h.kept p.end h.from h.to less (omega (arith, s.inside.top)) (k.hit less));
+      known = stops ∙ ap (λ (x : Polygraph). cond (eqb (length x.choices) p.end) x (pruned x)) (dropped_one less);
     }
 
     module _ (over : p.end ≤ h.at) where
-      same_rows : with_side g h.from h.to ≡ g
-      same_rows = ap₂ (with_side g) (k.stop over).0 (k.stop over).1 ∙ side_none g long small
+      same_rows : with_added g h.side ≡ g
+      same_rows = go h.side k.ends
+        where
+          go : (o : Option Side) → MatchOption o (p.end ≤ h.at) (λ s. (h.at < p.end) × (resolution_of g (get_or zs h.at no_constraint) ≡ Some s)) → with_added g o ≡ g
+          go None x = refl
+          go (Some v) x = absurd (omega (arith, x.0))
 
       passed : q ≡ graph g (take h.kept zs)
       passed = rest_end g zs h.at h.kept p.end over

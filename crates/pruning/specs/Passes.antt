@@ -1,9 +1,9 @@
 -- What one step of a pass does, and what is left of a pass that stands in the middle of a list. Assumes nothing.
-use Rattle.std.specs.Prelude.{ℕ, ◌+◌, ◌-◌, ◌≤◌, ◌<◌, ◌≡◌, Bool, true, false, cond, ◌||◌, List, ◌++◌, eqb, ltb, length, get_or, take, drop}
+use Rattle.std.specs.Prelude.{ℕ, ◌+◌, ◌-◌, ◌≤◌, ◌<◌, ◌≡◌, Bool, true, false, cond, List, ◌++◌, eqb, ltb, length, get_or, take, drop, Option, None, Some, MatchOption}
 use Rattle.model.specs.declared.Constraint.{Constraint}
 use Rattle.model.specs.Lent.{no_constraint}
-use Rattle.model.specs.Polygraph.{Polygraph, closed_off, pass, passes}
-use Rattle.pruning.specs.declared.Resolution.{Resolution}
+use Rattle.model.specs.Polygraph.{Polygraph, with_side, closed_off, pass, passes}
+use Rattle.graph.specs.declared.Side.{Side}
 use Rattle.pruning.specs.declared.Place.{Place}
 use Rattle.pruning.specs.declared.Hit.{Hit}
 use Rattle.pruning.specs.declared.Pruned.{Pruned}
@@ -16,18 +16,19 @@ LowTargets c = (c.toA < 32) × (c.toB < 32)
 abbrev pub Aims : List Constraint → ℕ → Type 0
 Aims ys n = (k : ℕ) → k < n → LowTargets (get_or ys k no_constraint)
 
--- by whether side A, and side B, is closed off: x, else y, else 0
-unfoldable pub picked : Bool → Bool → ℕ → ℕ → ℕ
-picked true b x y = x
-picked false true x y = y
-picked false false x y = 0
+-- by whether side A, and side B, is closed off: the side that is added where a constraint is dropped is the other one; where neither is, it stays
+unfoldable pub resolution : Bool → Bool → Constraint → Option Side
+resolution true b c = Some (record { from = c.fromB; to = c.toB })
+resolution false true c = Some (record { from = c.fromA; to = c.toA })
+resolution false false c = None
 
--- the side that is added is the other one
-unfoldable pub resolution : Bool → Bool → Constraint → Resolution
-resolution a b c = record { drops = a || b; from = picked a b c.fromB c.fromA; to = picked a b c.toB c.toA }
-
-unfoldable pub resolution_of : List ℕ → Constraint → Resolution
+unfoldable pub resolution_of : List ℕ → Constraint → Option Side
 resolution_of g c = resolution (closed_off g c.fromA c.toA) (closed_off g c.fromB c.toB) c
+
+-- the known edges with the side that is added, if one is
+abbrev pub with_added : List ℕ → Option Side → List ℕ
+with_added g None = g
+with_added g (Some s) = with_side g s.from s.to
 
 abbrev pub choose_place : Bool → Place → Place → Place
 choose_place true a b = a
@@ -78,8 +79,7 @@ pub record Skimmed (g : List ℕ) (ys : List Constraint) (at kept end : ℕ) (r 
   pub same : rest g zs r.at r.kept end ≡ rest g ys at kept end
   pub back : drop end zs ≡ drop end ys
   pub aims : Aims zs end
-  pub hit : r.at < end → resolution_of g (get_or zs r.at no_constraint) ≡ record { drops = true; from = r.from; to = r.to }
-  pub stop : end ≤ r.at → (r.from ≡ 0) × (r.to ≡ 0)
+  pub ends : MatchOption r.side (end ≤ r.at) (λ s. (r.at < end) × (resolution_of g (get_or zs r.at no_constraint) ≡ Some s))
 
 -- what pruning the first n of ys leaves: the model's edges and constraints, and the places from n on as they were
 pub record Pruning (g : List ℕ) (ys : List Constraint) (n pruning : ℕ) (r : Pruned) (zs : List Constraint) : Type 0 where

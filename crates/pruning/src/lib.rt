@@ -2,25 +2,20 @@
 // The known edges travel by value, and beside them their closed rows, kept closed as edges are added.
 #![tactic(auto)]
 
-ghost use Rattle.std.specs.Prelude.{◌≡◌, List, ◌++◌, ℕ, ◌-◌, ◌<◌, ◌≤◌, length, take, drop, replicate};
+ghost use Rattle.std.specs.Prelude.{◌≡◌, List, ◌++◌, ℕ, ◌-◌, ◌<◌, ◌≤◌, IfSome, length, take, drop, replicate};
 ghost use Rattle.model.specs.Polygraph.{reach};
 ghost use Rattle.model.specs.Lent.{no_constraint};
-ghost use Rattle.pruning.specs.Passes.{LowTargets, Aims, picked, resolution_of, first_place, next_place, Skimmed, Pruning};
+ghost use Rattle.setting.specs.Encodings.{pruning_number};
+ghost use Rattle.pruning.specs.Passes.{LowTargets, Aims, resolution_of, first_place, next_place, Skimmed, Pruning};
 
+use graph::Side;
 use model::Constraint;
 
 pub mod numbers;
 
-// What a pass does with a constraint: whether it drops it, and then the edges from each source in `from` to `to` are added.
-#[derive(Clone, Copy)]
-struct Resolution {
-    pub drops: bool,
-    pub from: u32,
-    pub to: u32,
-}
-
-// Where a pass stands: at the constraint `at` of those below `end`, with `kept` at the front. No pass is `on` once one has dropped none.
-// This and `Hit` are public for what `answers` says of their counts.
+// Where a pass stands: at the constraint `at` of those below `end`, with `kept` at the front. No pass is `on` once one has dropped none; what it kept
+// is read then too, so this is no Option.
+// This and `Hit` are public for what `finding` says of their counts.
 #[derive(Clone, Copy)]
 pub struct Place {
     pub at: u16,
@@ -29,13 +24,12 @@ pub struct Place {
     pub on: bool,
 }
 
-// The next constraint that is dropped, with the side that is added, or the end of the pass, with no edges to add.
+// The next constraint that is dropped, with the side that is added, or the end of the pass, with none.
 #[derive(Clone, Copy)]
 pub struct Hit {
     pub at: u16,
     pub kept: u16,
-    pub from: u32,
-    pub to: u32,
+    pub side: Option<Side>,
 }
 
 // The known edges as pruning leaves them, and the count of constraints left.
@@ -45,36 +39,28 @@ pub struct Pruned {
     pub left: u16,
 }
 
-// x where side A is closed off, else y where side B is, else 0.
-fn pick(a: bool, b: bool, x: u32, y: u32) -> u32
-    ensures { result ≡ picked a b x y }
-{
-    if a {
-        return x;
-    }
-    if b { y } else { 0 }
-}
-
-// What a pass does with a constraint, by the closed rows so far.
-fn judge(closed: &[u32; 32], c: Constraint) -> Resolution
+// What a pass does with a constraint, by the closed rows so far: where a side is closed off it drops it, and adds the other one.
+fn judge(closed: &[u32; 32], c: Constraint) -> Option<Side>
     requires { LowTargets c }
-    ensures { (result.to < 32) × ((g : List ℕ) → closed.now ≡ reach g → result ≡ resolution_of g c) }
+    ensures low { IfSome result (λ s. s.to < 32) }
+    ensures is { (g : List ℕ) → closed.now ≡ reach g → result ≡ resolution_of g c }
 {
     let a = graph::closed_off(closed, c.fromA, c.toA);
     let b = graph::closed_off(closed, c.fromB, c.toB);
-    let drops = a | b;
-    if !drops {
-        return Resolution {
-            drops,
-            from: 0,
-            to: 0,
-        };
+    // one test for both: which side is closed off is hard to guess
+    if !(a | b) {
+        return None;
     }
-    Resolution {
-        drops,
-        from: pick(a, b, c.fromB, c.fromA),
-        to: pick(a, b, c.toB, c.toA),
+    if a {
+        return Some(Side {
+            from: c.fromB,
+            to: c.toB,
+        });
     }
+    Some(Side {
+        from: c.fromA,
+        to: c.toA,
+    })
 }
 
 // Constraints that stay are moved to the front, up to the next that is dropped.
@@ -88,28 +74,23 @@ fn skim<'a, 'b>(
     requires { (kept ≤ at) × (at ≤ end) × (end ≤ length list.old) × Aims list.old end }
     ensures { (g : List ℕ) → closed.now ≡ reach g → Skimmed g list.old at kept end result list.new }
 {
-    let mut i = at;
     let mut j = kept;
-    let mut v = Resolution {
-        drops: false,
-        from: 0,
-        to: 0,
-    };
-    while i < end {
+    for i in at..end {
         let c = list[i as usize];
-        v = judge(closed, c);
-        if v.drops {
-            break;
+        if let Some(side) = judge(closed, c) {
+            return Hit {
+                at: i,
+                kept: j,
+                side: Some(side),
+            };
         }
         list[j as usize] = c;
         j += 1;
-        i += 1;
     }
     Hit {
-        at: i,
+        at: end,
         kept: j,
-        from: v.from,
-        to: v.to,
+        side: None,
     }
 }
 
@@ -142,11 +123,12 @@ fn after(p: Place, h: Hit) -> Place
     }
 }
 
-// Where pruning of n constraints starts; with pruning 0 all are kept, and no pass is on.
-fn begin(n: u16, pruning: u8) -> Place
-    ensures { result ≡ first_place n pruning }
+// Where pruning of n constraints starts; where it is not done all are kept, and no pass is on.
+#[tactic(auto, unfolding(crate::specs::Passes::first_place))]
+fn begin(n: u16, pruned: bool) -> Place
+    ensures { result ≡ first_place n (pruning_number pruned) }
 {
-    if pruning == 1 {
+    if pruned {
         Place {
             at: 0,
             kept: 0,
@@ -163,21 +145,23 @@ fn begin(n: u16, pruning: u8) -> Place
     }
 }
 
-// With pruning 1, passes over the first n constraints, until one drops none: those left stand first, in their order.
-pub fn prune(rows: [u32; 32], list: &mut [Constraint], n: u16, pruning: u8) -> Pruned
+// Where pruning is done, passes over the first n constraints, until one drops none: those left stand first, in their order.
+pub fn prune(rows: [u32; 32], list: &mut [Constraint], n: u16, pruned: bool) -> Pruned
     requires { (n ≤ length list.old) × Aims list.old n }
-    ensures { Pruning rows list.old n pruning result list.new }
+    ensures { Pruning rows list.old n (pruning_number pruned) result list.new }
 {
     let mut known = rows;
     let mut closed = graph::closure(rows);
-    let mut p = begin(n, pruning);
+    let mut p = begin(n, pruned);
     while p.on {
         let h = skim(&closed, list, p.at, p.kept, p.end);
         p = after(p, h);
-        let next = graph::add_side(known, h.from, h.to);
-        known = next;
-        let grown = graph::extend(closed, h.from, h.to);
-        closed = grown;
+        if let Some(side) = h.side {
+            // in two steps: a call's result that goes straight into an array that is there gets no generated proof
+            let next = graph::add_side(known, side.from, side.to);
+            known = next;
+            graph::take(&mut closed, side.from, side.to);
+        }
     }
     Pruned {
         rows: known,
@@ -196,9 +180,5 @@ pub fn clear(list: &mut [Constraint], from: u16, end: u16)
         fromB: 0,
         toB: 0,
     };
-    let mut i = from as usize;
-    while i < end as usize {
-        list[i] = zeros;
-        i += 1;
-    }
+    list[from as usize..end as usize].fill(zeros);
 }

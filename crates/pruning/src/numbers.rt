@@ -15,14 +15,13 @@ fn resolve(rows: &mut [u32; 32], c: Constraint) -> bool
     requires { LowTargets c }
     ensures { (g : List ℕ) → rows.old ≡ reach g → Tidy g → Resolves g c result rows.new }
 {
-    let v = crate::judge(rows, c);
-    if !v.drops {
-        return false;
+    if let Some(side) = crate::judge(rows, c) {
+        if !graph::side_held(rows, side.from, side.to) {
+            graph::take(rows, side.from, side.to);
+        }
+        return true;
     }
-    if !graph::side_held(rows, v.from, v.to) {
-        graph::take(rows, v.from, v.to);
-    }
-    true
+    false
 }
 
 // One pass over the first n numbers; how many stay.
@@ -32,13 +31,11 @@ fn pass(rows: &mut [u32; 32], tables: &[u32; WORDS], chosen: &mut [u16; PLACES],
         → PrunedTo (Rattle.model.specs.Polygraph.pass g (items_by tables.now chosen.old n)) tables.now chosen.new result rows.new) }
 {
     let mut kept: u16 = 0;
-    let mut i: usize = 0;
-    while i < n as usize {
+    for i in 0..n as usize {
         let c = chosen[i];
         let drops = resolve(rows, listing::nth(tables, chosen, i));
         chosen[kept as usize] = c;
         kept += if drops { 0 } else { 1 };
-        i += 1;
     }
     kept
 }

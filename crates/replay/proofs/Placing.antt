@@ -18,7 +18,6 @@ use Rattle.model.proofs.Basics.{same?, true_eq, false_eq, not_intro, all_up_to_i
 use Rattle.model.proofs.Places.{Once, once_tail, Order, order_out, order_once, order_place, order_length, count_here, count_there, place_here, place_there}
 use Rattle.model.proofs.Loaded.{loaded, history_size}
 use Rattle.model.proofs.Times.{ended_is, ended_past, timed_times}
-use Rattle.logs.specs.Reading.{InLog}
 use Rattle.replay.specs.Orders.{Ordered, Places}
 use Rattle.replay.specs.Steps.{kept_by, stands_after, clock_kept}
 use Rattle.replay.proofs.Alls.{all_up_to_same}
@@ -132,17 +131,15 @@ module _ (b : List ℕ) (ts : Times) (taken : timed_number b ts ≡ 0) (o places
 
 -- ---- an order of a log's transactions
 
-module _ (b o : List ℕ) (ok : load_number b ≡ 0) (t : T (is_order (transactions_in b) o)) where
-  abbrev order : Order (transactions_in b) o
-  order = order_out (transactions_in b) o t
+-- each of its numbers is one
+pub order_in_log : (b o : List ℕ) → T (is_order (transactions_in b) o) → (i : ℕ) → i < length o → get_or o i 0 < transactions_in b
+order_in_log b o t i l = small_at (transactions_in b) o (order_out (transactions_in b) o t).small i l
 
-  -- each of its numbers is a transaction
-  pub order_in_log : (i : ℕ) → i < length o → InLog b (get_or o i 0)
-  order_in_log i l = record { loads = ok; below = small_at (transactions_in b) o order.small i l }
-
-  pub order_places : Ordered o
-  order_places = record {
-    few = omega (arith, order_length order, (loaded b ok).few);
-    once = order_once order;
-    small = λ i l. omega (arith, small_at (transactions_in b) o order.small i l, (loaded b ok).few);
-  }
+pub order_places : (b o : List ℕ) → load_number b ≡ 0 → T (is_order (transactions_in b) o) → Ordered o
+order_places b o ok t =
+    let order = order_out (transactions_in b) o t in
+    record {
+      few = omega (arith, order_length order, (loaded b ok).few);
+      once = order_once order;
+      small = λ i l. omega (arith, order_in_log b o t i l, (loaded b ok).few);
+    }

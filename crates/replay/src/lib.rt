@@ -6,7 +6,9 @@
 ghost use Rattle.std.specs.Prelude.{◌≡◌, T};
 ghost use Rattle.model.specs.History.{is_order, legal};
 ghost use Rattle.model.specs.Log.{transactions_in};
-ghost use Rattle.model.specs.Times.{times, timed_number, timed_history};
+ghost use Rattle.model.specs.Times.{times, timed_history};
+
+use logs::times::TimedLog;
 
 mod cabinets;
 mod clock;
@@ -14,16 +16,12 @@ pub mod orders;
 pub mod tables;
 
 // Whether an order of the log's transactions is legal.
-pub fn is_legal(log: &[u8], begin: &[u32], end: &[u32], drift: u32, order: &[u8]) -> bool
-    requires { (timed_number log.now (times begin.now end.now drift) ≡ 0) × T (is_order (transactions_in log.now) order.now) }
-    ensures { result ≡ legal (timed_history log.now (times begin.now end.now drift)) order.now }
+pub fn is_legal(log: TimedLog<'_>, order: &[u8]) -> bool
+    requires { T (is_order (transactions_in log.log.bytes.now) order.now) }
+    ensures { result ≡ legal (timed_history log.entry.log.bytes.now (times log.entry.clock.begin.now log.entry.clock.end.now log.entry.clock.drift)) order.now }
 {
     let places = orders::places(order);
-    if !cabinets::keeps(log, places) {
-        return false;
-    }
-    if !clock::keeps(begin, end, drift, places) {
-        return false;
-    }
-    tables::explains(log, order)
+    cabinets::keeps(log.log, places)
+        && clock::keeps(log.clock, places)
+        && tables::explains(log.log, order)
 }

@@ -10,10 +10,7 @@ fn is_new(n: u32, mask: u32, x: u32) -> bool
     requires { n ≤ 32 }
     ensures { result ≡ is_new n mask x }
 {
-    if x >= n {
-        return false;
-    }
-    !has(mask, x)
+    x < n && !has(mask, x)
 }
 
 // Whether the list is an order of the numbers below n: as many numbers, each below n and none of them twice.
@@ -24,15 +21,13 @@ pub fn is_order(n: u32, list: &[u8]) -> bool
     if list.len() != n as usize {
         return false;
     }
-    let mut mask: u32 = 0;
-    let mut i: usize = 0;
-    while i < list.len() {
-        let x = list[i] as u32;
+    let mut mask = 0;
+    for x in list {
+        let x = u32::from(*x);
         if !is_new(n, mask, x) {
             return false;
         }
         mask = with(mask, x);
-        i += 1;
     }
     true
 }
@@ -43,11 +38,8 @@ pub(crate) fn places(order: &[u8]) -> [u8; 32]
     ensures { Places order.now result }
 {
     let mut out = [0u8; 32];
-    let mut i: usize = 0;
-    while i < order.len() {
-        let t = order[i] as usize;
-        out[t] = i as u8;
-        i += 1;
+    for (i, t) in order.iter().enumerate() {
+        out[usize::from(*t)] = i as u8;
     }
     out
 }

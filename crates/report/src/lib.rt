@@ -6,12 +6,6 @@ ghost use Rattle.std.specs.Prelude.{◌≡◌, [], ◌∷◌, not, eqb, ◌+◌,
 ghost use Rattle.model.specs.Lists.{each};
 ghost use Rattle.report.specs.Text.{digits, number_text, step_text, order_text, key_text, line_if, table_text, marked, found_text, refused_text, no_order_text, Wrote};
 
-fn wide(x: u8) -> u16
-    ensures { result ≡ x }
-{
-    x as u16
-}
-
 // One byte.
 fn push(out: &mut [u8], at: usize, byte: u8) -> usize
     requires { at < length out.old }
@@ -26,12 +20,8 @@ fn put_word(out: &mut [u8], at: usize, word: &[u8]) -> usize
     requires { at + length word.now ≤ length out.old }
     ensures { Wrote out.old at word.now out.new result }
 {
-    let mut end = at;
-    let mut i: usize = 0;
-    while i < word.len() {
-        end = push(out, end, word[i]);
-        i += 1;
-    }
+    let end = at + word.len();
+    out[at..end].copy_from_slice(word);
     end
 }
 
@@ -44,10 +34,10 @@ fn put_digits(out: &mut [u8], at: usize, most: u32, n: u16) -> usize
         return at;
     }
     if n < 10 {
-        return push(out, at, 48 + (n % 10) as u8);
+        return push(out, at, b'0' + (n % 10) as u8);
     }
     let end = put_digits(out, at, most - 1, n / 10);
-    push(out, end, 48 + (n % 10) as u8)
+    push(out, end, b'0' + (n % 10) as u8)
 }
 
 // A word and a number behind it.
@@ -65,10 +55,8 @@ fn put_steps(out: &mut [u8], at: usize, order: [u8; 32], n: usize) -> usize
     ensures { Wrote out.old at (each step_text (take n order)) out.new result }
 {
     let mut end = at;
-    let mut i: usize = 0;
-    while i < n {
-        end = put_number(out, end, b" ", wide(order[i]));
-        i += 1;
+    for t in &order[..n] {
+        end = put_number(out, end, b" ", u16::from(*t));
     }
     end
 }
@@ -110,10 +98,8 @@ fn put_table(out: &mut [u8], at: usize, writers: [u32; 32], table: [u16; 32]) ->
     ensures { Wrote out.old at (table_text (marked writers) table 32) out.new result }
 {
     let mut end = at;
-    let mut k: usize = 0;
-    while k < 32 {
+    for k in 0..32 {
         end = put_if_written(out, end, writers[k], k as u16, table[k]);
-        k += 1;
     }
     end
 }
@@ -138,7 +124,7 @@ pub fn refused_text(number: u8, out: &mut [u8]) -> usize
     requires { 1024 ≤ length out.old }
     ensures { Wrote out.old 0 (refused_text number) out.new result }
 {
-    let end = put_number(out, 0, b"refused ", wide(number));
+    let end = put_number(out, 0, b"refused ", u16::from(number));
     push(out, end, b'\n')
 }
 

@@ -4,6 +4,7 @@ use Rattle.std.specs.Int.Bits.{bit_and, bit_or}
 use Rattle.model.specs.Lists.{bit}
 use Rattle.model.specs.History.{start}
 use Rattle.rules.specs.declared.Body.{Body}
+use Rattle.rules.specs.declared.Seen.{Seen}
 
 -- a read's argument below n, or 65535
 unfoldable pub named : ℕ → ℕ → Bool
@@ -36,6 +37,11 @@ mark_by mask kind which key = cond (eqb kind which) (bit_or mask (2 ^ key)) mask
 -- the mask of the keys read back, with the key where the body reads it after a write of it
 unfoldable pub mark_back : ℕ → ℕ → ℕ → ℕ → ℕ
 mark_back backs writes kind key = cond (bit writes key) (mark_by backs kind 0 key) backs
+
+-- the keys after a body
+abbrev pub after_by : Seen → Body → Seen
+after_by s o =
+    record { reads = mark_by s.reads o.kind 0 o.key; writes = mark_by s.writes o.kind 1 o.key; backs = mark_back s.backs s.writes o.kind o.key }
 
 -- a body after reads and writes of these keys, as bits of which none is set where it is good and no read-back
 unfoldable pub faults_by : Body → ℕ → ℕ → ℕ → ℕ

@@ -3,11 +3,13 @@
 #![tactic(auto)]
 
 ghost use Rattle.std.specs.Prelude.{◌≡◌, Bool, cond, ◌<◌};
-ghost use Rattle.rules.specs.Tests.{named, back_by, read_by, write_by, body_by, faults_by, mark_by, mark_back, keep_word};
+ghost use Rattle.refusals.specs.Numbers.{number_of};
+ghost use Rattle.rules.specs.Tests.{named, back_by, read_by, write_by, body_by, after_by, faults_by, mark_by, mark_back, keep_word};
 
 use graph::{has, with};
+use refusals::Refusal;
 
-// The body of an operation: kind 0 is a read and 1 a write.
+// The body of an operation: kind 0 is a read and 1 a write. It is a number and no enum, since `faults` computes with whatever a log has there.
 #[derive(Clone, Copy)]
 pub struct Body {
     pub kind: usize,
@@ -15,7 +17,16 @@ pub struct Body {
     pub argument: usize,
 }
 
+// The keys that a transaction has read, written and read back so far: none, as it starts.
+#[derive(Clone, Copy, Default)]
+pub struct Seen {
+    pub reads: u32,
+    pub writes: u32,
+    pub backs: u32,
+}
+
 // The mask with the key, where the body is of the kind that is marked.
+#[tactic(auto, unfolding(crate::specs::Tests::mark_by))]
 pub fn mark(mask: u32, kind: usize, which: usize, key: u32) -> u32
     requires { key < 32 }
     ensures { result ≡ mark_by mask kind which key }
@@ -33,7 +44,8 @@ pub fn mark_write(mask: u32, kind: usize, key: u32) -> u32
 }
 
 // The mask of the keys read back, with the key where the body reads it after a write of it.
-pub fn mark_back(backs: u32, writes: u32, kind: usize, key: u32) -> u32
+#[tactic(auto, unfolding(crate::specs::Tests::mark_back))]
+fn mark_back(backs: u32, writes: u32, kind: usize, key: u32) -> u32
     requires { key < 32 }
     ensures { result ≡ mark_back backs writes kind key }
 {
@@ -45,6 +57,7 @@ pub fn mark_back(backs: u32, writes: u32, kind: usize, key: u32) -> u32
 }
 
 // Whether a read's argument is below n, or 65535.
+#[tactic(auto, unfolding(crate::specs::Tests::named))]
 fn names(argument: usize, n: usize) -> bool
     ensures { result ≡ named n argument }
 {
@@ -53,52 +66,83 @@ fn names(argument: usize, n: usize) -> bool
 
 // ---- body by body
 
-// The number of a read-back by t: 10 where it is the second of its key, 11 where it names anything but t, or 0.
-fn read_back(argument: usize, t: usize, second: bool) -> u8
-    ensures { result ≡ back_by t second argument }
+// A read-back by t: 10 where it is the second of its key, 11 where it names anything but t.
+#[tactic(auto, unfolding(crate::specs::Tests::back_by))]
+fn read_back(argument: usize, t: usize, second: bool) -> Result<(), Refusal>
+    ensures { number_of result ≡ back_by t second argument }
 {
     if second {
-        return 10;
+        return Err(Refusal::SecondRead);
     }
-    if argument == t { 0 } else { 11 }
+    if argument != t {
+        return Err(Refusal::NotItsOwnWrite);
+    }
+    Ok(())
 }
 
-// The number of a read by t: 9, 10, 11 or 0.
-fn read(argument: usize, n: usize, t: usize, key: u32, reads: u32, writes: u32, backs: u32) -> u8
-    requires { key < 32 }
-    ensures { result ≡ read_by n t reads writes backs key argument }
-{
-    if !names(argument, n) {
-        return 9;
+impl Seen {
+    // A read by t: 9, 10, 11.
+    #[tactic(auto, unfolding(crate::specs::Tests::read_by))]
+    fn read(self, argument: usize, n: usize, t: usize, key: u32) -> Result<(), Refusal>
+        requires { key < 32 }
+        ensures { number_of result ≡ read_by n t self.reads self.writes self.backs key argument }
+    {
+        if !names(argument, n) {
+            return Err(Refusal::NoSuchWriter);
+        }
+        if has(self.writes, key) {
+            return read_back(argument, t, has(self.backs, key));
+        }
+        if has(self.reads, key) {
+            Err(Refusal::SecondRead)
+        } else {
+            Ok(())
+        }
     }
-    if has(writes, key) {
-        return read_back(argument, t, has(backs, key));
-    }
-    if has(reads, key) { 10 } else { 0 }
-}
 
-// The number of a write: 34 where it is the second of its key, or 0.
-fn write(key: u32, writes: u32) -> u8
-    requires { key < 32 }
-    ensures { result ≡ write_by writes key }
-{
-    if has(writes, key) { 34 } else { 0 }
-}
+    // A write: 34 where it is the second of its key.
+    #[tactic(auto, unfolding(crate::specs::Tests::write_by))]
+    fn write(self, key: u32) -> Result<(), Refusal>
+        requires { key < 32 }
+        ensures { number_of result ≡ write_by self.writes key }
+    {
+        if has(self.writes, key) {
+            Err(Refusal::SecondWrite)
+        } else {
+            Ok(())
+        }
+    }
 
-// The number of a body of t: 7, 8, then that of a read or a write, or 0.
-pub fn number(o: Body, n: usize, t: usize, reads: u32, writes: u32, backs: u32) -> u8
-    ensures { result ≡ body_by o n t reads writes backs }
-{
-    if o.kind > 1 {
-        return 7;
+    // A body of t, in a log of n transactions: 7, 8, then what a read or a write is refused with.
+    #[tactic(auto, unfolding(crate::specs::Tests::body_by))]
+    pub fn test(self, o: Body, n: usize, t: usize) -> Result<(), Refusal>
+        ensures { number_of result ≡ body_by o n t self.reads self.writes self.backs }
+    {
+        if o.kind > 1 {
+            return Err(Refusal::NoSuchKind);
+        }
+        if o.key > 31 {
+            return Err(Refusal::NoSuchKey);
+        }
+        if o.kind == 0 {
+            self.read(o.argument, n, t, o.key as u32)
+        } else {
+            self.write(o.key as u32)
+        }
     }
-    if o.key > 31 {
-        return 8;
+
+    // The keys after a body.
+    pub fn after(self, o: Body) -> Seen
+        requires { o.key < 32 }
+        ensures { result ≡ after_by self o }
+    {
+        let key = o.key as u32;
+        Seen {
+            reads: mark(self.reads, o.kind, 0, key),
+            writes: mark(self.writes, o.kind, 1, key),
+            backs: mark_back(self.backs, self.writes, o.kind, key),
+        }
     }
-    if o.kind == 0 {
-        return read(o.argument, n, t, o.key as u32, reads, writes, backs);
-    }
-    write(o.key as u32, writes)
 }
 
 // ---- all bodies at once

@@ -1,5 +1,7 @@
 // Times of the test programs, as a case keeps them.
-use checker::{Answer, Case, Clock, Reply};
+use crate::first;
+use checker::{Answer, Case, Clock};
+use trial::times::{Spans, Times};
 
 // None.
 pub fn none() -> Clock {
@@ -11,53 +13,52 @@ pub fn none() -> Clock {
     }
 }
 
-// Load of a log beside a starting table and the first n of these seconds. 255, which no call gives, where they are fewer.
-fn load_first(
-    c: Case,
-    log: &[u8],
-    starting: &[u16],
-    begin: &[u32],
-    end: &[u32],
-    n: usize,
-    drift: u32,
-) -> Answer {
-    if n > begin.len() || n > end.len() {
-        return Answer {
-            case: c,
-            reply: Reply::Refused(255),
-        };
+// Times of n transactions, as a case keeps them.
+pub fn of_times(x: &Times, n: u8) -> Clock {
+    match &x.spans {
+        Some(s) => Clock {
+            count: usize::from(n % 33),
+            begin: s.begin,
+            end: s.end,
+            drift: x.drift,
+        },
+        None => Clock {
+            drift: x.drift,
+            ..none()
+        },
     }
-    c.load(log, starting, &begin[0..n], &end[0..n], drift)
 }
 
-// Load of a log beside a starting table and these times.
-pub fn load_by(c: Case, log: &[u8], starting: &[u16], clock: Clock) -> Answer {
-    let begin = clock.begin;
-    let end = clock.end;
-    load_first(c, log, starting, &begin, &end, clock.count, clock.drift)
+// What a case keeps, as times.
+pub fn times_of(x: &Clock) -> Times {
+    let spans = Spans {
+        begin: x.begin,
+        end: x.end,
+    };
+    Times {
+        spans: if x.count > 0 { Some(spans) } else { None },
+        drift: x.drift,
+    }
+}
+
+// Load of a log beside a starting table and these times: the first `count` of each list, which has no more than 32.
+pub fn load_by(c: Case, log: &[u8], starting: &[u16], clock: &Clock) -> Answer {
+    let begin = first(&clock.begin, clock.count);
+    let end = first(&clock.end, clock.count);
+    c.load(log, starting, begin, end, clock.drift)
 }
 
 // The case that holds them.
-pub fn loaded_by(log: &[u8], starting: &[u16], clock: Clock) -> Case {
-    let a = load_by(Case::fresh(), log, starting, clock);
-    a.case
+pub fn loaded_by(log: &[u8], starting: &[u16], clock: &Clock) -> Case {
+    load_by(Case::fresh(), log, starting, clock).case
 }
 
-// Whether two lists of seconds are the same.
-fn same_seconds(a: [u32; 32], b: [u32; 32]) -> bool {
-    for t in 0..32usize {
-        if a[t] != b[t] {
-            return false;
-        }
-    }
-    true
-}
-
-// Whether two are the same, the seconds behind those that count too.
-pub fn same(a: Clock, b: Clock) -> bool {
-    let v = a.begin;
-    let w = b.begin;
-    let x = a.end;
-    let y = b.end;
-    a.count == b.count && a.drift == b.drift && same_seconds(v, w) && same_seconds(x, y)
+// A case with another count of times and another drift.
+pub fn with_count(c: Case, count: usize, drift: u32) -> Case {
+    let clock = Clock {
+        count,
+        drift,
+        ..c.clock
+    };
+    Case { clock, ..c }
 }

@@ -2,17 +2,20 @@
 // numbers, and lines of output.
 #![tactic(auto)]
 
-use checker::{Answer, Case, Judgement, Stage};
+use checker::{Answer, Case, Judgement};
+use refusals::number_of;
+use std::array;
+pub use trial::byte as at;
 
+pub mod acts;
 mod backs;
+pub mod calls;
 pub mod clocks;
 pub mod lines;
 pub mod tables;
+pub mod tallies;
 
-// A byte of a list, or 0 past its end.
-pub fn at(s: &[u8], i: usize) -> u8 {
-    if i < s.len() { s[i] } else { 0 }
-}
+// ---- logs
 
 // Byte f of an entry: cabinet t % 16, 8 operations, start 8 * t.
 fn entry_byte(t: usize, f: usize) -> u8 {
@@ -35,91 +38,63 @@ fn body_byte(m: usize, f: usize) -> u8 {
     }
 }
 
-// Byte i of the full log: 32 transactions and 256 operations.
-fn full_byte(i: usize) -> u8 {
-    if i < 4 {
-        return match i {
-            0 => 32,
-            3 => 1,
-            _ => 0,
-        };
+// Byte i of the header and the entries of a full log: 32 transactions of 8 operations each.
+fn contents_byte(i: usize) -> u8 {
+    match i {
+        0 => 32,
+        3 => 1,
+        1 | 2 => 0,
+        _ => entry_byte((i - 4) / 4, i % 4),
     }
-    if i < 132 {
-        entry_byte((i - 4) / 4, i % 4)
+}
+
+// The full log: 32 transactions and 256 operations.
+pub fn full() -> [u8; 1156] {
+    array::from_fn(|i| if i < 132 {
+        contents_byte(i)
     } else {
         body_byte((i - 132) / 4, i % 4)
-    }
-}
-
-// What a list of bytes is: the numbers 0, 1, 2 and on; the full log; the full log with read-backs; the log of one transaction with read-backs, key by key
-// or in three rounds.
-#[derive(Clone, Copy)]
-enum List {
-    Ascending,
-    Full,
-    Backed,
-    Long(bool),
-}
-
-// Byte i of a list.
-fn byte_of(list: List, i: usize) -> u8 {
-    match list {
-        List::Ascending => (i % 256) as u8,
-        List::Full => full_byte(i),
-        List::Backed => if i < 132 {
-            full_byte(i)
-        } else {
-            backs::full_body_byte((i - 132) / 4, i % 4)
-        },
-        List::Long(rounds) => backs::long_byte(rounds, i),
-    }
-}
-
-fn filled(list: List) -> [u8; 1156] {
-    let mut out = [0u8; 1156];
-    let mut i: usize = 0;
-    while i < 1156 {
-        out[i] = byte_of(list, i);
-        i += 1;
-    }
-    out
-}
-
-// The full log.
-pub fn full() -> [u8; 1156] {
-    filled(List::Full)
+    })
 }
 
 // A full log with three read-backs in each transaction. 0, 1, 2 and on is a legal order.
 pub fn full_backed() -> [u8; 1156] {
-    filled(List::Backed)
+    array::from_fn(|i| if i < 132 {
+        contents_byte(i)
+    } else {
+        backs::full_body_byte((i - 132) / 4, i % 4)
+    })
 }
 
 // One transaction that reads 32 keys, writes them and reads them back: 96 operations, in the first 392 bytes. It does so key by key, or in three rounds.
 pub fn long(rounds: bool) -> [u8; 1156] {
-    filled(List::Long(rounds))
+    array::from_fn(|i| backs::long_byte(rounds, i))
 }
 
 // The numbers 0, 1, 2 and on.
 pub fn ascending() -> [u8; 1156] {
-    filled(List::Ascending)
+    array::from_fn(|i| (i % 256) as u8)
+}
+
+// The first n of a list, if it has so many.
+pub fn first<T, const N: usize>(list: &[T; N], n: usize) -> &[T] {
+    &list[..n.min(N)]
 }
 
 // The list with x at place i.
-pub fn with_byte(log: [u8; 1156], i: usize, x: u8) -> [u8; 1156] {
-    if i >= 1156 {
-        return log;
+pub fn with_byte<const N: usize>(list: [u8; N], i: usize, x: u8) -> [u8; N] {
+    let mut out = list;
+    if let Some(byte) = out.get_mut(i) {
+        *byte = x;
     }
-    let mut out = log;
-    out[i] = x;
     out
 }
 
+// ---- Load
+
 // Load of a log beside a starting table, without times.
 pub fn load_from(c: Case, log: &[u8], starting: &[u16]) -> Answer {
-    let begin = [0u32; 32];
-    let end = [0u32; 32];
-    c.load(log, starting, &begin[..0], &end[..0], 0)
+    c.load(log, starting, &[], &[], 0)
 }
 
 // The number that Load gives of a log beside a starting table and times.
@@ -131,128 +106,51 @@ pub fn load_number_at(
     end: &[u32],
     drift: u32,
 ) -> u64 {
-    let a = c.load(log, starting, begin, end, drift);
-    let r = a.reply;
-    r.number() as u64
+    u64::from(number_of(c.load(log, starting, begin, end, drift).reply))
 }
 
 // The same without times.
 pub fn load_number_from(c: Case, log: &[u8], starting: &[u16]) -> u64 {
-    let a = load_from(c, log, starting);
-    let r = a.reply;
-    r.number() as u64
+    u64::from(number_of(load_from(c, log, starting).reply))
 }
 
 // The same beside 32 zeros.
 pub fn load_number(c: Case, log: &[u8]) -> u64 {
-    let zeros = [0u16; 32];
-    load_number_from(c, log, &zeros)
-}
-
-// The same of the first n bytes.
-pub fn load_first(c: Case, log: [u8; 1156], n: usize) -> u64 {
-    if n > 1156 {
-        return 1000;
-    }
-    load_number(c, &log[..n])
+    load_number_from(c, log, &[0; 32])
 }
 
 // The number that Load gives of the full log with x at place i and y at place j.
 pub fn changed_number(i: usize, x: u8, j: usize, y: u8) -> u64 {
-    load_first(
-        Case::fresh(),
-        with_byte(with_byte(full(), i, x), j, y),
-        1156,
-    )
+    load_number(Case::fresh(), &with_byte(with_byte(full(), i, x), j, y))
 }
 
 // The case that holds a log beside a starting table and times.
 pub fn loaded_at(log: &[u8], starting: &[u16], begin: &[u32], end: &[u32], drift: u32) -> Case {
-    let fresh = Case::fresh();
-    let a = fresh.load(log, starting, begin, end, drift);
-    a.case
+    Case::fresh().load(log, starting, begin, end, drift).case
 }
 
 // The same without times.
 pub fn loaded_from(log: &[u8], starting: &[u16]) -> Case {
-    let a = load_from(Case::fresh(), log, starting);
-    a.case
+    load_from(Case::fresh(), log, starting).case
 }
 
 // The same beside 32 zeros.
 pub fn loaded(log: &[u8]) -> Case {
-    let zeros = [0u16; 32];
-    loaded_from(log, &zeros)
+    loaded_from(log, &[0; 32])
 }
 
-// The case that holds the full log.
-pub fn loaded_full() -> Case {
-    let log = full();
-    loaded(&log)
-}
+// ---- Check
 
 // What Check says: 100 legal, 101 not legal, or the number of a refusal.
 pub fn check_number(c: Case, order: &[u8]) -> u64 {
-    let a = c.check(order);
-    let j = a.judgement;
-    match j {
-        Judgement::Legal => 100,
-        Judgement::Illegal => 101,
-        Judgement::Refused(n) => n as u64,
+    match c.check(order).judgement {
+        Ok(Judgement::Legal) => 100,
+        Ok(Judgement::Illegal) => 101,
+        Err(refusal) => u64::from(refusal.number()),
     }
-}
-
-// The same of the first n numbers.
-pub fn check_first(c: Case, order: [u8; 1156], n: usize) -> u64 {
-    if n > 1156 {
-        return 1000;
-    }
-    check_number(c, &order[..n])
 }
 
 // The case after Check.
-pub fn after_check(c: Case, order: [u8; 1156]) -> Case {
-    let a = c.check(&order);
-    a.case
-}
-
-// A stage as a number.
-fn stage_number(s: Stage) -> u8 {
-    match s {
-        Stage::Fresh => 0,
-        Stage::Loaded => 1,
-        Stage::Ordered => 2,
-        Stage::NoOrder => 3,
-    }
-}
-
-// Whether two cases have the same stage and log.
-fn same_log(a: Case, b: Case) -> bool {
-    let s = a.stage;
-    let t = b.stage;
-    if stage_number(s) != stage_number(t) {
-        return false;
-    }
-    if a.length != b.length {
-        return false;
-    }
-    let x = a.bytes;
-    let y = b.bytes;
-    check::same(&x, &y)
-}
-
-// Whether two cases have the same order.
-fn same_order(a: Case, b: Case) -> bool {
-    let o = a.order;
-    let p = b.order;
-    check::same(&o, &p)
-}
-
-// Whether two cases are the same, field by field.
-pub fn same_case(a: Case, b: Case) -> bool {
-    let v = a.starting;
-    let w = b.starting;
-    let x = a.clock;
-    let y = b.clock;
-    tables::same(v, w) && clocks::same(x, y) && same_log(a, b) && same_order(a, b)
+pub fn after_check(c: Case, order: &[u8]) -> Case {
+    c.check(order).case
 }

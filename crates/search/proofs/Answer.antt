@@ -1,9 +1,8 @@
--- What `first_order` answers for a history: the first legal order, or none, in all six settings. Assumes nothing.
--- For the caller: `asked_of` meets what the call requires, and `answer_first` turns what it ensures into the model's words.
+-- What `first_closed` answers for a history: the first legal order, or none, in all six settings. Assumes nothing.
+-- For the caller: `asked_of` meets what the call requires, and `answer_none` and `answer_some` turn what it ensures into the model's words.
 use Prim.Native.Nat.{ℕ, suc, ◌+◌, ◌*◌, ◌-◌, ◌≤◌, ◌<◌}
 use native.Mathlib.Omega.{arith}
 use mathlib.Core.Path.{◌≡◌, refl, sym, ap, subst, ◌∙◌}
-use mathlib.Core.Bool.{Bool, true, false, cond}
 use mathlib.Core.Option.{none, some}
 use mathlib.Core.List.{List, [], ◌∷◌, ◌++◌}
 use lib.Dec.{T}
@@ -21,7 +20,7 @@ use Rattle.model.proofs.Known.{Loadable}
 use Rattle.model.proofs.Pruning.{legal_iff, polygraph_sound}
 use Rattle.model.proofs.First.{first_legal_lem, found_unique, first_missing}
 use Rattle.search.specs.Constraints.{con_at, list_of}
-use Rattle.search.specs.Orders.{Solution, Asked, Answered}
+use Rattle.search.specs.Orders.{Solution, First, Asked}
 
 -- ---- numbers behind an order
 
@@ -48,7 +47,7 @@ module _ (h : History) (ok : Loadable h) (e pruning : ℕ) (l : e < 3) (w : List
   unfolding list_of
   all_in P f = subst (All P) (sym same) (All-map-in P (con_at w) (up_to n) (up_to_in (λ i. P (con_at w i)) n f))
 
-  -- what `first_order` asks
+  -- what `first_closed` asks
   pub asked_of : 4 * n ≤ length w → n ≤ 4096 → Asked (size h) w n (polygraph h e pruning).known
   asked_of long few =
       let p = polygraph_sound h ok e pruning in
@@ -68,18 +67,14 @@ module _ (h : History) (ok : Loadable h) (e pruning : ℕ) (l : e < 3) (w : List
       let r = (legal_iff h ok e pruning l o).0 k in
       record { order = r.0; known = r.1.0; keeps = all_out (RespectsOne o) r.1.1 }
 
-  first_is : (found : Bool) (out : List ℕ) → Answered (size h) w n (polygraph h e pruning).known found out → first_legal h ≡ cond found (some (take (size h) out)) none
-  first_is true out r =
-      let z = r.some refl in
-      found_unique h (first_legal h) (some (take (size h) out)) (first_legal_lem h) (solution_legal (take (size h) out) z.solves, λ o k. z.lowest o (legal_solution o k))
-  first_is false out r = first_missing h (λ o k. r.none refl o (legal_solution o k))
+  -- the answer says that there is none
+  pub answer_none : ((o : List ℕ) → Solution (size h) w n (polygraph h e pruning).known o → ⊥) → first_legal h ≡ none
+  answer_none z = first_missing h (λ o k. z o (legal_solution o k))
 
-  numbers_are : (found : Bool) (out : List ℕ) → Answered (size h) w n (polygraph h e pruning).known found out → out ≡ order_numbers (cond found (some (take (size h) out)) none)
-  unfolding order_numbers
-  numbers_are true out r = let z = r.some refl in zeros_behind (size h) out ok.few z.long z.zeros
-  numbers_are false out r = r.zeros refl
-
-  -- the answer says which: the first legal order, or that there is none; and the numbers are that order's, with zeros behind it, or 32 zeros
-  pub answer_first : (found : Bool) (out : List ℕ) → Answered (size h) w n (polygraph h e pruning).known found out
-      → (first_legal h ≡ cond found (some (take (size h) out)) none) × (out ≡ order_numbers (first_legal h))
-  answer_first found out r = let x = first_is found out r in (x, numbers_are found out r ∙ ap order_numbers (sym x))
+  -- or it is the first legal order, with zeros behind it
+  pub answer_some : (out : List ℕ) → First (size h) w n (polygraph h e pruning).known out
+      → (first_legal h ≡ some (take (size h) out)) × (out ≡ order_numbers (some (take (size h) out)))
+  answer_some out z = (
+    found_unique h (first_legal h) (some (take (size h) out)) (first_legal_lem h) (solution_legal (take (size h) out) z.solves, λ o k. z.lowest o (legal_solution o k)),
+    zeros_behind (size h) out ok.few z.long z.zeros,
+  )

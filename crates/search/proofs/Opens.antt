@@ -10,6 +10,7 @@ use lib.Dec.{T, eqb, eqb→eq, eqb_refl, ltb, ltb→lt, nltb→le}
 use lib.ListN.{length, get_or, set, length-set, length-append, get_or-append, get_or-eq_default}
 use lib.Seq.{get_or_at, get_or-set_same, get_or-set_other}
 use lib.Count.{count_trailing_zeros}
+use Rattle.std.specs.Prelude.{Option, None, Some, IfSome, unwrap_or}
 use Rattle.model.specs.Lists.{all, up_to, keep, bit}
 use Rattle.model.specs.Polygraph.{reach, closed_off}
 use Rattle.model.specs.declared.Constraint.{Constraint}
@@ -173,8 +174,8 @@ module _ (l : List ℕ) (i set : ℕ) (f : (b : ℕ) → bit set b ≡ (bit (get
               (decide (ltb j i));
         }
 
-  module _ (w c : List ℕ) (from stop n : ℕ) (h : from ≤ i) (g : (j : ℕ) → from ≤ j → j < stop → j < i → T (is_open l j) → T (not (shut c (con_at w j)))) (b : ℕ) (x : HitIn w c (i / 32 * 32) set b) where
-    none_here : (j : ℕ) → from ≤ j → j < stop → j < i / 32 * 32 + b → j < i / 32 * 32 + 32 → T (is_open l j) → T (not (shut c (con_at w j)))
+  module _ (w c : List ℕ) (from stop n : ℕ) (h : from ≤ i) (g : (j : ℕ) → from ≤ j → j < stop → j < i → T (is_open l j) → T (not (shut c (con_at w j)))) (r : Option ℕ) (x : HitIn w c (i / 32 * 32) set r) where
+    none_here : (j : ℕ) → from ≤ j → j < stop → j < i / 32 * 32 + unwrap_or r 32 → j < i / 32 * 32 + 32 → T (is_open l j) → T (not (shut c (con_at w j)))
     none_here j a s k k' o =
         ⊎_elim (λ (q : T (ltb j i)). g j a s (ltb→lt j i q) o)
         (λ q.
@@ -182,14 +183,16 @@ module _ (l : List ℕ) (i set : ℕ) (f : (b : ℕ) → bit set b ≡ (bit (get
         subst (λ (z : ℕ). T (not (shut c (con_at w z)))) (sym y.1) (x.none (j % 32) (omega (arith, y.1)) y.0))
         (decide (ltb j i))
 
-    pub hit_found : Fit l n → b < 32 → NextHit w c l from stop n (i / 32 * 32 + b)
-    hit_found fit k =
-        let y = x.some k in
-        let z = word_out b k y.0 in
-        record { bound = omega (arith, z.1); top = omega (arith, fit (i / 32 * 32 + b) z.0); some = λ q. (z.0, y.1); none = λ j a s q. none_here j a s q (omega arith) }
+    pub hit_found : Fit l n → (b : ℕ) → r ≡ Some b → NextHit w c l from stop n (i / 32 * 32 + b)
+    hit_found fit b is =
+        let y = subst (λ (o : Option ℕ). IfSome o (λ b. (b < 32) × T (bit set b) × T (shut c (con_at w (i / 32 * 32 + b))))) is x.some in
+        let z = word_out b y.0 y.1 in
+        let u : unwrap_or r 32 ≡ b = ap (λ (o : Option ℕ). unwrap_or o 32) is in
+        record { bound = omega (arith, z.1); top = omega (arith, fit (i / 32 * 32 + b) z.0); some = λ q. (z.0, y.2); none = λ j a s q. none_here j a s (omega arith) (omega (arith, y.0)) }
 
-    pub hit_skip : 32 ≤ b → (j : ℕ) → from ≤ j → j < stop → j < i / 32 * 32 + 32 → T (is_open l j) → T (not (shut c (con_at w j)))
-    hit_skip k j a s q o = none_here j a s (omega arith) q o
+    pub hit_skip : r ≡ None → (j : ℕ) → from ≤ j → j < stop → j < i / 32 * 32 + 32 → T (is_open l j) → T (not (shut c (con_at w j)))
+    hit_skip is j a s q o =
+        let u : unwrap_or r 32 ≡ 32 = ap (λ (o : Option ℕ). unwrap_or o 32) is in none_here j a s (omega arith) q o
 
 pub next_none : (l : List ℕ) (n from i : ℕ) → ((j : ℕ) → from ≤ j → j < i → T (is_open l j) → ⊥) → from ≤ n → n ≤ i → NextOpen l from n n
 next_none l n from i f k e = record { bound = k; top = omega arith; some = λ q. absurd (omega arith); none = λ j a b o. f j a (omega arith) o }

@@ -2,9 +2,9 @@
 use Prim.Native.Nat.{ℕ, zero, suc, ◌^◌, ◌≤◌, ◌<◌}
 use native.Mathlib.Omega.{arith}
 use native.Mathlib.Nat.{not-suc-le-zero}
-use mathlib.Core.Path.{◌≡◌, refl, sym, subst}
+use mathlib.Core.Path.{◌≡◌, sym, subst}
 use mathlib.Core.Logic.{inl, inr, ⊎_elim, ◌≢◌}
-use mathlib.Core.Bool.{Bool, true, false, not, ◌&&◌}
+use mathlib.Core.Bool.{Bool, not, ◌&&◌}
 use mathlib.Core.List.{List}
 use lib.Dec.{T, eqb, eqb→eq, ltb, ltb→lt, nltb→le}
 use lib.Count.{count_trailing_zeros}
@@ -19,7 +19,7 @@ use Rattle.model.proofs.Loops.{any_bit}
 use Rattle.model.proofs.Topology.{topological}
 use Rattle.model.proofs.Sides.{cyclic_out}
 use Rattle.search.specs.Constraints.{con_at, is_open, Keeps, AimedAll}
-use Rattle.search.specs.Steps.{Ready, Walked}
+use Rattle.search.specs.Steps.{Ready, Chosen, Hopeless}
 use Rattle.model.specs.declared.Constraint.{Constraint}
 use Rattle.search.specs.Orders.{Sure, opposed, Under, Placed, Witness, Progress, Never, Below, Picked}
 use Rattle.graph.proofs.Rows.{bit_below}
@@ -146,13 +146,12 @@ module _ (t : ℕ) (w : List ℕ) (n : ℕ) (c l sel : List ℕ) (g : Progress t
     within_after = p.within t g.within hv low
 
     -- a walk says no
-    walk_never : (e : List ℕ) → Walked w n d l false e → Never w n c set v
-    walk_never e x o k y f = x.none refl o (p.keeps o k f) y
+    walk_never : Hopeless w n d → Never w n c set v
+    walk_never x o k y f = x o (p.keeps o k f) y
 
     -- a walk says yes
-    walk_witness : (e : List ℕ) → Walked w n d l true e → Witness t w n d e
-    walk_witness e x =
-        let z = x.some refl in
+    walk_witness : (e : List ℕ) → Chosen w n d l e → Witness t w n d e
+    walk_witness e z =
         record {
           partial = z.partial;
           within = z.within t within_after g.aimed;
@@ -248,20 +247,20 @@ module _ (t : ℕ) (w : List ℕ) (n : ℕ) (c l sel : List ℕ) (set under over
     picking_ready = ready_after t w n c l sel p.progress set p.small p.low (count_trailing_zeros 32 m) (candidate (count_trailing_zeros 32 m) lowest_cand).3 d x
 
     -- a walk says yes
-    pub picked_walk : (found : Bool) (e : List ℕ) → Walked w n d l found e → found ≡ true → Picked t w n c set (count_trailing_zeros 32 m) d e
-    picked_walk found e y q =
+    pub picked_walk : (e : List ℕ) → Chosen w n d l e → Picked t w n c set (count_trailing_zeros 32 m) d e
+    picked_walk e y =
         let k = candidate (count_trailing_zeros 32 m) lowest_cand in
         record {
           member = k.1;
           placed = x;
-          witness = walk_witness t w n c l sel p.progress set p.small p.low (count_trailing_zeros 32 m) k.3 d x e (subst (λ (b : Bool). Walked w n d l b e) q y);
+          witness = walk_witness t w n c l sel p.progress set p.small p.low (count_trailing_zeros 32 m) k.3 d x e y;
           lowest = lower_never (count_trailing_zeros 32 m) (omega arith);
         }
 
     -- a walk says no
-    pub picking_next : count_trailing_zeros 32 m < free → (found : Bool) (e : List ℕ) → Walked w n d l found e → found ≡ false → (r : ℕ) → r < m
+    pub picking_next : count_trailing_zeros 32 m < free → Hopeless w n d → (r : ℕ) → r < m
         → ((b : ℕ) → bit r b ≡ (bit m b && not (eqb b (count_trailing_zeros 32 m)))) → Picking t w n c l sel set under over cand free r
-    picking_next h found e y q r less is-r =
+    picking_next h y r less is-r =
         let k = candidate (count_trailing_zeros 32 m) lowest_cand in
         let ne : free ≢ count_trailing_zeros 32 m = omega arith in
         record {
@@ -273,6 +272,6 @@ module _ (t : ℕ) (w : List ℕ) (n : ℕ) (c l sel : List ℕ) (set under over
           is_cand = p.is_cand;
           free_in = p.free_in;
           free_over = p.free_over;
-          scan = scan_next (Never w n c set) cand m p.scan left_over (walk_never t w n c l sel p.progress set p.small p.low (count_trailing_zeros 32 m) k.3 d x e (subst (λ (b : Bool). Walked w n d l b e) q y)) r less is-r;
+          scan = scan_next (Never w n c set) cand m p.scan left_over (walk_never t w n c l sel p.progress set p.small p.low (count_trailing_zeros 32 m) k.3 d x y) r less is-r;
           stays = eq-T (sym (is-r free)) (and_in (bit m free) (not (eqb free (count_trailing_zeros 32 m))) p.stays (ne_eqb {m = free} {n = count_trailing_zeros 32 m} ne));
         }

@@ -1,11 +1,12 @@
 -- The walk: its answers where pruning is stuck, at a leaf and after a choice, and that its measure falls. Assumes nothing.
 use Prim.Native.Nat.{ℕ, ◌≤◌, ◌<◌}
 use native.Mathlib.Omega.{arith}
-use mathlib.Core.Path.{◌≡◌, sym, subst, ◌∙◌}
+use mathlib.Core.Path.{◌≡◌, sym, subst}
 use mathlib.Core.Logic.{⊎_elim, ◌≢◌}
 use mathlib.Core.Bool.{Bool, true, false, not}
 use mathlib.Core.List.{List}
 use lib.Dec.{T}
+use Rattle.std.specs.Prelude.{Option, None, Some, is_some}
 use Rattle.model.specs.Polygraph.{has, closed_off, RespectsOne}
 use Rattle.model.specs.declared.Constraint.{Constraint}
 use Rattle.model.specs.RowWords.{Within, Aimed, side_in, held}
@@ -17,9 +18,6 @@ use Rattle.search.proofs.Opens.{drop_fewer, drop_stays}
 use Rattle.search.proofs.Pairs.{side_falls}
 
 module _ (w : List ℕ) (n : ℕ) (c l : List ℕ) (stuck : Bool) (d m : List ℕ) (x : PrunedState w n c l stuck d m) where
-  pub walk_stuck : stuck ≡ true → (e : List ℕ) → Walked w n c l false e
-  walk_stuck q e = record { some = λ r. no_true r; none = λ r. x.hopeless q }
-
   module _ (q : stuck ≡ false) where
     narrow : Narrowed w n c l d m
     narrow = x.narrowed q
@@ -28,17 +26,13 @@ module _ (w : List ℕ) (n : ℕ) (c l : List ℕ) (stuck : Bool) (d m : List �
     prune_fit fit i t = fit i (narrow.fewer i t)
 
     -- no choice is left
-    pub walk_leaf : Fit l n → (i : ℕ) → n ≤ i → NextChoice w d m n i → Walked w n c l true d
+    pub walk_leaf : Fit l n → (i : ℕ) → n ≤ i → NextChoice w d m n i → Chosen w n c l d
     walk_leaf fit i h y =
         record {
-          some = λ e.
-              record {
-                partial = narrow.grown.partial;
-                more = narrow.grown.more;
-                within = narrow.grown.within;
-                held = λ j t. ⊎_elim (λ o. y.none j (omega (arith, fit j t)) o) (λ o. narrow.settled j t o) (decide (is_open m j));
-              };
-          none = λ e. no_true (sym e);
+          partial = narrow.grown.partial;
+          more = narrow.grown.more;
+          within = narrow.grown.within;
+          held = λ j t. ⊎_elim (λ o. y.none j (omega (arith, fit j t)) o) (λ o. narrow.settled j t o) (decide (is_open m j));
         }
 
     -- ---- a choice at i
@@ -92,12 +86,9 @@ module _ (w : List ℕ) (n : ℕ) (c l : List ℕ) (stuck : Bool) (d m : List �
           pub ready-A : Fit l n → Ready w n e k
           ready-A fit = record { given = g; partial = a.partial; fit = λ j t. fit j (rest_fewer j t) }
 
-          pub chosen-A : (b : Bool) (f : List ℕ) → Walked w n e k b f → b ≡ true → Walked w n c l b f
-          chosen-A b f z r =
-              record {
-                some = λ s. after e f a.more (λ v p t. a.within v p (aimed v t).fromA-small (aimed v t).toA-small) (held-A e con a.there) (z.some r);
-                none = λ s. no_true (sym s ∙ r);
-              }
+          pub chosen-A : (r : Option (List ℕ)) → Walked w n e k r → is_some r ≡ true → Walked w n c l r
+          chosen-A (Some f) z h = after e f a.more (λ v p t. a.within v p (aimed v t).fromA-small (aimed v t).toA-small) (held-A e con a.there) z
+          chosen-A None z h = no_true h
 
           module _ (f : List ℕ) (b : Taken d f con.fromB con.toB) where
             pub falls-B : open_pairs f < open_pairs c
@@ -108,10 +99,9 @@ module _ (w : List ℕ) (n : ℕ) (c l : List ℕ) (stuck : Bool) (d m : List �
             pub ready-B : Fit l n → Ready w n f k
             ready-B fit = record { given = g; partial = b.partial; fit = λ j t. fit j (rest_fewer j t) }
 
-            pub chosen-B : (r : Bool) (s : List ℕ) → Walked w n e k r s → r ≡ false → (r' : Bool) (s' : List ℕ) → Walked w n f k r' s' → Walked w n c l r' s'
-            chosen-B r s z p r' s' z' =
-                record {
-                  some = λ t. after f s' b.more (λ v y u. b.within v y (aimed v u).fromB-small (aimed v u).toB-small) (held-B f con b.there) (z'.some t);
-                  none = λ t o u v.
-                      ⊎_elim (λ y. z.none p o (a.keeps o (narrow.grown.keeps o u v) y) v) (λ y. z'.none t o (b.keeps o (narrow.grown.keeps o u v) y) v) (subst (RespectsOne o) (sym is) (v i h));
-                }
+            pub chosen-B : (r : Option (List ℕ)) → Walked w n e k r → is_some r ≡ false → (s : Option (List ℕ)) → Walked w n f k s → Walked w n c l s
+            chosen-B (Some x) z p s z' = no_true (sym p)
+            chosen-B None z p (Some s) z' = after f s b.more (λ v y u. b.within v y (aimed v u).fromB-small (aimed v u).toB-small) (held-B f con b.there) z'
+            chosen-B None z p None z' =
+                λ o u v.
+                ⊎_elim (λ y. z o (a.keeps o (narrow.grown.keeps o u v) y) v) (λ y. z' o (b.keeps o (narrow.grown.keeps o u v) y) v) (subst (RespectsOne o) (sym is) (v i h))

@@ -114,18 +114,12 @@ module _ (P : ℕ → Type 0) (set : ℕ) where
   scan_none h = record { small = h; part = λ b t. t; done = λ b t n. absurd (clash (bit set b) t n) }
 
   module _ (m : ℕ) (s : Scan m) where
-    pub scan_end : m ≡ 0 → (b : ℕ) → T (bit set b) → P b
-    scan_end e b t = s.done b t (subst (λ (x : ℕ). T (not (bit x b))) (sym e) (subst (λ (x : Bool). T (not x)) (sym (bit_none b)) tt))
-
     pub scan_before : (b : ℕ) → b < count_trailing_zeros 32 m → T (bit set b) → P b
     scan_before b h t = s.done b t (low_none m b s.small h)
 
     module _ (ne : m ≡ 0 → ⊥) where
       pub scan_low : T (bit m (count_trailing_zeros 32 m))
       scan_low = low_set m ne s.small
-
-      pub scan_top : count_trailing_zeros 32 m < 32
-      scan_top = low_small m ne s.small
 
       pub scan_next : P (count_trailing_zeros 32 m) → (r : ℕ) → r < m → ((b : ℕ) → bit r b ≡ (bit m b && not (eqb b (count_trailing_zeros 32 m)))) → Scan r
       scan_next p r l f =

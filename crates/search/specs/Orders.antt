@@ -1,5 +1,5 @@
 -- What the search for the first order promises. `c` are row words, `l` the words of the open constraints, `w` the words of the n constraints, `set` the numbers that are not placed. Assumes nothing.
-use Rattle.std.specs.Prelude.{ℕ, ◌^◌, ◌<◌, ◌≤◌, ◌≡◌, ◌⊎◌, ◌≢◌, Bool, true, false, not, cond, ◌&&◌, List, ◌++◌, T, eqb, length, get_or, take, replicate}
+use Rattle.std.specs.Prelude.{ℕ, ◌^◌, ◌<◌, ◌≤◌, ◌≡◌, ◌⊎◌, ◌≢◌, Bool, not, cond, ◌&&◌, List, ◌++◌, T, eqb, length, get_or, take, Option, MatchOption}
 use Rattle.std.specs.Int.Bits.{bit_or}
 use Rattle.model.specs.Lists.{bit, count}
 use Rattle.model.specs.History.{is_order}
@@ -111,8 +111,6 @@ pub record Asked (t : ℕ) (w : List ℕ) (n : ℕ) (g : List ℕ) : Type 0 wher
   pub within : Within g t
   pub aimed : AimedAll t w n
 
--- the answer: the first solution, or 32 zeros where there is none
-pub record Answered (t : ℕ) (w : List ℕ) (n : ℕ) (g : List ℕ) (found : Bool) (out : List ℕ) : Type 0 where
-  pub some : found ≡ true → First t w n g out
-  pub none : found ≡ false → (o : List ℕ) → Solution t w n g o → ⊥
-  pub zeros : found ≡ false → out ≡ replicate 32 0
+-- the answer: the first solution, or that there is none
+abbrev pub Answered : ℕ → List ℕ → ℕ → List ℕ → Option (List ℕ) → Type 0
+Answered t w n g r = MatchOption r ((o : List ℕ) → Solution t w n g o → ⊥) (First t w n g)

@@ -1,5 +1,5 @@
 -- What the steps of the search promise. `c`, `d`, `e` are row words, `l`, `m` the words of the open constraints, `w` the words of the n constraints. Assumes nothing.
-use Rattle.std.specs.Prelude.{ℕ, ◌+◌, ◌/◌, ◌%◌, ◌<◌, ◌≤◌, ◌≡◌, Bool, true, false, not, ◌&&◌, ◌||◌, List, T, ltb, length}
+use Rattle.std.specs.Prelude.{ℕ, ◌+◌, ◌/◌, ◌%◌, ◌<◌, ◌≤◌, ◌≡◌, Bool, true, false, not, ◌&&◌, ◌||◌, List, T, ltb, length, Option, MatchOption, IfSome, unwrap_or}
 use Rattle.model.specs.Lists.{bit, keep, up_to}
 use Rattle.model.specs.Polygraph.{Polygraph, has, with_side, reach, closed_off, passes, RespectsKnown, RespectsSide}
 use Rattle.model.specs.declared.Constraint.{Constraint}
@@ -73,9 +73,8 @@ pub record Chosen (w : List ℕ) (n : ℕ) (c l d : List ℕ) : Type 0 where
   pub held : (i : ℕ) → T (is_open l i) → T (held d (con_at w i))
 
 -- the walk's answer: a selection, or that no order respects all
-pub record Walked (w : List ℕ) (n : ℕ) (c l : List ℕ) (found : Bool) (d : List ℕ) : Type 0 where
-  pub some : found ≡ true → Chosen w n c l d
-  pub none : found ≡ false → Hopeless w n c
+abbrev pub Walked : List ℕ → ℕ → List ℕ → List ℕ → Option (List ℕ) → Type 0
+Walked w n c l r = MatchOption r (Hopeless w n c) (Chosen w n c l)
 
 -- u < v, and neither leads to the other
 unfoldable pub apart : List ℕ → ℕ → ℕ → Bool
@@ -98,10 +97,10 @@ pub record Turning (n i stop again : ℕ) : Type 0 where
   pub stops : stop ≤ n
   pub behind : again ≤ i
 
--- the first of 32 constraints from `base` on that is in the set and has a side closed off, or 32
-pub record HitIn (w c : List ℕ) (base set r : ℕ) : Type 0 where
-  pub some : r < 32 → T (bit set r) × T (shut c (con_at w (base + r)))
-  pub none : (b : ℕ) → b < r → T (bit set b) → T (not (shut c (con_at w (base + b))))
+-- the first of 32 constraints from `base` on that is in the set and has a side closed off, if one has
+pub record HitIn (w c : List ℕ) (base set : ℕ) (r : Option ℕ) : Type 0 where
+  pub some : IfSome r (λ b. (b < 32) × T (bit set b) × T (shut c (con_at w (base + b))))
+  pub none : (b : ℕ) → b < unwrap_or r 32 → T (bit set b) → T (not (shut c (con_at w (base + b))))
 
 -- the first open constraint from `from` on that has a side closed off, or none before `stop`; in any case one of n, or n
 pub record NextHit (w c l : List ℕ) (from stop n r : ℕ) : Type 0 where

@@ -12,25 +12,10 @@ ghost use Rattle.model.specs.RowWords.{«held»};
 ghost use Rattle.search.specs.Constraints.{con_at, with_words, is_open, Given, Fit, Dropped};
 ghost use Rattle.search.specs.Steps.{PartialOrder, «shut», Taken, Last, PrunedState, Ready, Walked, NextOpen, HitIn, NextHit, NextChoice};
 
+use graph::{Side, members};
 use model::Constraint;
 
 pub mod order;
-
-use graph::mask::clear_low;
-
-// Whether there is a selection without a cycle, and the closed row words of one.
-#[derive(Clone, Copy)]
-pub struct Selection {
-    pub rows: [u32; 32],
-    pub found: bool,
-}
-
-// A side: an edge from each source to the target.
-#[derive(Clone, Copy)]
-pub struct Side {
-    pub from: u32,
-    pub to: u32,
-}
 
 // A word without its bits below s.
 fn bits_from(word: u32, s: u32) -> u32
@@ -74,21 +59,18 @@ fn shut(rows: &[u32; 32], k: Constraint) -> bool
     graph::closed_off(rows, k.fromA, k.toA) | graph::closed_off(rows, k.fromB, k.toB)
 }
 
-// The first of 32 constraints from `base` on that is in the set and has a side closed off, or 32.
-fn hit_in(rows: &[u32; 32], words: &[u32], base: usize, set: u32, n: u16) -> u32
+// The first of 32 constraints from `base` on that is in the set and has a side closed off.
+fn hit_in(rows: &[u32; 32], words: &[u32], base: usize, set: u32, n: u16) -> Option<u32>
     requires { ((b : ℕ) → T (bit set b) → base + b < n) × (reach rows.now ≡ rows.now) × Given words.now n }
     ensures { HitIn words.now rows.now base set result }
 {
-    let mut m = set;
-    while m != 0 {
-        let b = u32::trailing_zeros(m);
+    for b in members(set) {
         let k = constraint_at(words, base + b as usize);
         if shut(rows, k) {
-            return b;
+            return Some(b);
         }
-        m = clear_low(m);
     }
-    32
+    None
 }
 
 // The first open constraint from `from` on that has a side closed off; `stop` or more, and at most n, where none before `stop` has.
@@ -104,11 +86,11 @@ fn next_hit(
     ensures { NextHit words.now rows.now left.now from stop n result }
 {
     let mut i = from;
+    // by index: the first step may begin within a word, each other one at a word
     while i < stop as usize {
         let w = i / 32;
         let set = bits_from(left[w], (i % 32) as u32);
-        let b = hit_in(rows, words, w * 32, set, n);
-        if b < 32 {
+        if let Some(b) = hit_in(rows, words, w * 32, set, n) {
             return w * 32 + b as usize;
         }
         i = w * 32 + 32;
@@ -124,7 +106,7 @@ fn take(rows: &mut [u32; 32], from: u32, to: u32)
     graph::take(rows, from, to);
 }
 
-// The same by value.
+// The same by value, for words that go from choice to choice.
 fn extend(rows: [u32; 32], from: u32, to: u32) -> [u32; 32]
     requires { PartialOrder rows × (to < 32) × T (not (closed_off rows from to)) }
     ensures { Taken rows result from to }
@@ -172,12 +154,10 @@ pub(crate) fn prune(rows: &mut [u32; 32], left: &mut [u32; 128], words: &[u32], 
         if at < stop as usize {
             let k = constraint_at(words, at);
             let side = last_side(rows, k);
-            let from = side.from;
-            let to = side.to;
-            if graph::closed_off(rows, from, to) {
+            if graph::closed_off(rows, side.from, side.to) {
                 return true;
             }
-            take(rows, from, to);
+            take(rows, side.from, side.to);
             drop_at(left, at);
             i = at + 1;
             stop = n;
@@ -198,10 +178,7 @@ fn held(rows: &[u32; 32], k: Constraint) -> bool
     requires { (k.toA < 32) × (k.toB < 32) }
     ensures { result ≡ «held» rows.now k }
 {
-    if graph::side_held(rows, k.fromA, k.toA) {
-        return true;
-    }
-    graph::side_held(rows, k.fromB, k.toB)
+    graph::side_held(rows, k.fromA, k.toA) || graph::side_held(rows, k.fromB, k.toB)
 }
 
 // The first open constraint from `from` on, or n.
@@ -210,6 +187,7 @@ pub(crate) fn next_open(left: &[u32; 128], from: usize, n: u16) -> usize
     ensures { NextOpen left.now from n result }
 {
     let mut i = from;
+    // by index, as in `next_hit`
     while i < n as usize {
         let w = i / 32;
         let m = bits_from(left[w], (i % 32) as u32);
@@ -241,34 +219,28 @@ fn next_choice(rows: &[u32; 32], left: &[u32; 128], words: &[u32], n: u16) -> us
 }
 
 // The walk: whether some order respects the row words and one side of each constraint, where those that are not open are settled.
+// `Some` has the closed row words of a selection without a cycle.
 // Each choice puts two numbers in order that stood in none, so at most 496 calls stand one in another below the first (`depth` in proofs/Pairs.antt).
 // As compiled a level takes 1,232 bytes of stack.
-pub(crate) fn walk(rows: [u32; 32], left: &[u32; 128], words: &[u32], n: u16) -> Selection
+pub(crate) fn walk(rows: [u32; 32], left: &[u32; 128], words: &[u32], n: u16) -> Option<[u32; 32]>
     requires { Ready words.now n rows left.now }
-    ensures { Walked words.now n rows left.now result.found result.rows }
+    ensures { Walked words.now n rows left.now result }
 {
     let mut l = *left;
     let mut c = rows;
     let stuck = prune(&mut c, &mut l, words, n);
     if stuck {
-        return Selection {
-            rows: c,
-            found: false,
-        };
+        return None;
     }
     let i = next_choice(&c, &l, words, n);
     if i >= n as usize {
-        return Selection {
-            rows: c,
-            found: true,
-        };
+        return Some(c);
     }
     drop_at(&mut l, i);
     let k = constraint_at(words, i);
     let with_a = extend(c, k.fromA, k.toA);
     let a = walk(with_a, &l, words, n);
-    let found = a.found;
-    if found {
+    if a.is_some() {
         return a;
     }
     let with_b = extend(c, k.fromB, k.toB);

@@ -18,13 +18,6 @@ pub struct Choice {
     pub v: u32,
 }
 
-// Whether there is an order, and the first, with zeros behind it.
-#[derive(Clone, Copy)]
-pub struct Found {
-    pub found: bool,
-    pub order: [u8; 32],
-}
-
 // A set with the row of u, where u is in `set`.
 fn gather(out: u32, set: u32, u: u32, row: u32) -> u32
     requires { u < 32 }
@@ -38,8 +31,8 @@ fn below(rows: [u32; 32], set: u32) -> u32
     ensures { Under rows set 32 result }
 {
     let mut out: u32 = 0;
-    for u in 0..32 {
-        out = gather(out, set, u as u32, rows[u]);
+    for (u, row) in rows.iter().enumerate() {
+        out = gather(out, set, u as u32, *row);
     }
     out
 }
@@ -71,8 +64,8 @@ fn put_first(rows: [u32; 32], set: u32, under: u32, v: u32) -> [u32; 32]
     let rest = graph::mask::without(set, v);
     let add = rest | under;
     let mut out = rows;
-    for i in 0..32 {
-        out[i] = lead_row(add, v, i as u32, out[i]);
+    for (u, row) in out.iter_mut().enumerate() {
+        *row = lead_row(add, v, u as u32, *row);
     }
     out
 }
@@ -106,10 +99,7 @@ fn pick(
             };
         }
         let d = put_first(rows, set, under, v);
-        let a = crate::walk(d, left, words, n);
-        let found = a.found;
-        if found {
-            let s = a.rows;
+        if let Some(s) = crate::walk(d, left, words, n) {
             return Choice { rows: d, sel: s, v };
         }
         m = graph::mask::clear_low(m);
@@ -136,15 +126,12 @@ fn fill(
     let mut out = [0; 32];
     for k in 0..t {
         let p = pick(c, &l, s, set, words, n, t);
-        let v = p.v;
-        let d = p.rows;
-        let chosen = p.sel;
-        c = d;
+        c = p.rows;
         // not stuck: the selection at hand has all that is picked
         crate::prune(&mut c, &mut l, words, n);
-        s = chosen;
-        set = graph::mask::without(set, v);
-        out[k] = v as u8;
+        s = p.sel;
+        set = graph::mask::without(set, p.v);
+        out[k] = p.v as u8;
     }
     out
 }
@@ -205,23 +192,7 @@ fn opposite(k: Constraint) -> bool
     requires { (k.toA < 32) × (k.toB < 32) }
     ensures { result ≡ opposed k }
 {
-    if k.fromA != 1 << k.toB {
-        return false;
-    }
-    if k.fromB != 1 << k.toA {
-        return false;
-    }
-    k.toA != k.toB
-}
-
-// The open constraints without constraint i, where it is to go.
-fn drop_if(left: &mut [u32; 128], i: usize, goes: bool)
-    requires { (i < 4096) × T (is_open left.old i) }
-    ensures { (goes ≡ true → Dropped left.old i left.new) × (goes ≡ false → left.new ≡ left.old) }
-{
-    if goes {
-        crate::drop_at(left, i);
-    }
+    k.fromA == 1 << k.toB && k.fromB == 1 << k.toA && k.toA != k.toB
 }
 
 // Those go from the open constraints: every order has one of their two sides, and pruning adds nothing by them. The search goes on without them.
@@ -236,41 +207,30 @@ fn lighter(left: &mut [u32; 128], words: &[u32], n: u16)
             return;
         }
         let k = crate::constraint_at(words, j);
-        drop_if(left, j, opposite(k));
+        if opposite(k) {
+            crate::drop_at(left, j);
+        }
         i = j + 1;
     }
 }
 
-// The first order that respects closed row words without a cycle and one side of each of the first n constraints.
-pub fn first_closed(rows: [u32; 32], words: &[u32], n: u16, t: usize) -> Found
+// The first order that respects closed row words without a cycle and one side of each of the first n constraints, with zeros behind it; or that there is none.
+pub fn first_closed(rows: [u32; 32], words: &[u32], n: u16, t: usize) -> Option<[u8; 32]>
     requires { Asked t words.now n rows × PartialOrder rows }
-    ensures { Answered t words.now n rows result.found result.order }
+    ensures { Answered t words.now n rows result }
 {
     let mut left = [0; 128];
     all_open(n, &mut left);
     let mut d = rows;
     let stuck = crate::prune(&mut d, &mut left, words, n);
     if stuck {
-        return Found {
-            found: false,
-            order: [0; 32],
-        };
+        return None;
     }
     lighter(&mut left, words, n);
     let set = numbers(t as u32);
     if crate::next_open(&left, 0, n) >= n as usize {
-        let order = lowest_first(d, set, t);
-        return Found { found: true, order };
+        return Some(lowest_first(d, set, t));
     }
-    let a = crate::walk(d, &left, words, n);
-    let found = a.found;
-    if found {
-        let sel = a.rows;
-        let order = fill(d, left, sel, set, words, n, t);
-        return Found { found: true, order };
-    }
-    Found {
-        found: false,
-        order: [0; 32],
-    }
+    let sel = crate::walk(d, &left, words, n)?;
+    Some(fill(d, left, sel, set, words, n, t))
 }

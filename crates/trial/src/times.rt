@@ -1,13 +1,20 @@
 // Times on the office clock, card 7, drawn at random. They are drawn apart from all else, so that they alone set a sample apart from the one without.
-use crate::orders::{exchanged, shuffled};
-use crate::{at, below, next};
+ghost use Rattle.std.specs.Prelude.{◌≤◌};
 
-// A begin and an end for each transaction, and the drift. Where `timed` is false there are none, and the drift alone stands.
+use crate::orders::shuffled;
+use crate::{below, chance, next};
+
+// A begin and an end for each transaction, in two lists as Load takes them.
 #[derive(Clone, Copy)]
-pub struct Times {
-    pub timed: bool,
+pub struct Spans {
     pub begin: [u32; 32],
     pub end: [u32; 32],
+}
+
+// The times of a history, or none, and the drift.
+#[derive(Clone, Copy)]
+pub struct Times {
+    pub spans: Option<Spans>,
     pub drift: u32,
 }
 
@@ -15,51 +22,77 @@ pub struct Times {
 const TOP: u64 = 4294967295;
 
 // The manners of times: those of a run in an order; the same with two transactions exchanged; few seconds only; both ends of the range.
-pub const RUN: u8 = 0;
+#[derive(Clone, Copy)]
+pub enum Manner {
+    Run,
+    Disturbed,
+    Close,
+    Ends,
+}
 
-pub const DISTURBED: u8 = 1;
+// One of them by a number.
+pub fn manner_by(n: u64) -> Manner {
+    match n % 4 {
+        0 => Manner::Run,
+        1 => Manner::Disturbed,
+        2 => Manner::Close,
+        _ => Manner::Ends,
+    }
+}
 
-pub const CLOSE: u8 = 2;
+impl Times {
+    // None, with a drift that then means nothing.
+    pub fn without(drift: u32) -> Times {
+        Times { spans: None, drift }
+    }
 
-pub const ENDS: u8 = 3;
+    // Whether transaction u ended, by more than the drift, before v began. The sum may pass 32 bits.
+    pub fn ended_before(&self, u: usize, v: usize) -> bool {
+        match &self.spans {
+            Some(s) => u64::from(s.end[u % 32]) + u64::from(self.drift)
+                < u64::from(s.begin[v % 32]),
+            None => false,
+        }
+    }
+}
 
-pub const MANNERS: u8 = 4;
+impl Spans {
+    // All zeros.
+    pub fn new() -> Spans {
+        Spans {
+            begin: [0; 32],
+            end: [0; 32],
+        }
+    }
 
-// None, with a drift that then means nothing.
-pub fn without(drift: u32) -> Times {
-    Times {
-        timed: false,
-        begin: [0; 32],
-        end: [0; 32],
-        drift,
+    // Transaction t begins at a second and takes so many, up to the highest second.
+    pub fn set(&mut self, t: usize, begin: u64, length: u64) {
+        let first = begin.min(TOP);
+        self.begin[t % 32] = first as u32;
+        self.end[t % 32] = first.saturating_add(length).min(TOP) as u32;
     }
 }
 
 // A drift: none, a second, an hour, or anything up to an hour.
-fn drift_by(r: u64) -> u32 {
+fn drift_by(r: u64) -> u32
+    ensures { result ≤ 3600 }
+{
     match below(r, 4) {
         0 => 0,
         1 => 1,
         2 => 3600,
-        _ => (below(next(r), 3601) % 3601) as u32,
+        _ => below(next(r), 3601) as u32,
     }
-}
-
-// The times where transaction t begins at a second and takes so many, up to the highest second.
-fn with_span(x: Times, t: usize, begin: u64, length: u64) -> Times {
-    let first = begin % 4294967296;
-    let last = first + length % 4294967296;
-    let mut out = x;
-    out.begin[t % 32] = first as u32;
-    out.end[t % 32] = if last < TOP { last as u32 } else { TOP as u32 };
-    out
 }
 
 // ---- a run
 
 // How far apart the transactions of a run are: so that those next to each other can just be told apart by the clock, or only those further apart, or most.
-fn gap_by(drift: u32, r: u64) -> u64 {
-    let d = (drift % 3601) as u64;
+fn gap_by(drift: u32, r: u64) -> u64
+    requires { drift ≤ 3600 }
+    ensures { result ≤ 7203 }
+{
+    let d = u64::from(drift);
     match below(r, 3) {
         0 => d + 1,
         1 => d / 2 + 1,
@@ -68,65 +101,62 @@ fn gap_by(drift: u32, r: u64) -> u64 {
 }
 
 // How long a transaction took before its moment in the run or behind it: some seconds, or up to the next moment.
-fn reach_by(gap: u64, r: u64) -> u64 {
+fn reach_by(gap: u64, r: u64) -> u64
+    requires { gap ≤ 7203 }
+    ensures { result ≤ 7203 }
+{
     if below(r, 2) == 0 {
-        return below(next(r), 3) % 3;
+        return below(next(r), 3);
     }
-    below(next(r), gap) % 7203
+    below(next(r), gap)
 }
 
-// The times where transaction t has its moment in the run: it begins then or before, and ends then or behind it. So none that stands later in the run ended
-// before it began.
-fn with_moment(x: Times, t: usize, moment: u64, gap: u64, seed: u64) -> Times {
-    let before = reach_by(gap, at(seed, 610 + (t % 32) as u64)) % 7203;
-    let behind = reach_by(gap, at(seed, 650 + (t % 32) as u64)) % 7203;
-    with_span(x, t, 40000 + moment % 1000000 - before, before + behind)
-}
-
-// The times of a run in the order.
-fn of_run(x: Times, order: [u8; 32], gap: u64, seed: u64) -> Times {
-    let mut out = x;
-    let mut moment: u64 = 0;
-    for p in 0..32usize {
-        let t = order[p];
-        let more = with_moment(out, (t % 32) as usize, moment, gap, seed);
-        out = more;
-        moment = moment % 1000000 + gap % 7204;
+// The times of a run in the order. A transaction begins at its moment or before, and ends then or behind it. So none that stands later in the run ended before
+// it began.
+fn of_run(order: &[u8; 32], gap: u64, seed: u64) -> Spans
+    requires { gap ≤ 7203 }
+{
+    let mut out = Spans::new();
+    let mut moment: u64 = 40000;
+    for t in order {
+        let t = u64::from(*t);
+        let before = reach_by(gap, chance(seed, 610 + t));
+        let behind = reach_by(gap, chance(seed, 650 + t));
+        out.set(t as usize, moment.saturating_sub(before), before + behind);
+        moment = moment.saturating_add(gap);
     }
     out
 }
 
 // The order with two of the first `size` places exchanged.
-fn disturbed(order: [u8; 32], size: u8, seed: u64) -> [u8; 32] {
-    let i = below(at(seed, 690), size as u64);
-    let j = below(at(seed, 691), size as u64);
-    exchanged(order, (i % 32) as usize, (j % 32) as usize)
+fn disturbed(order: &[u8; 32], size: u8, seed: u64) -> [u8; 32] {
+    let mut out = *order;
+    let i = below(chance(seed, 690), u64::from(size)) % 32;
+    let j = below(chance(seed, 691), u64::from(size)) % 32;
+    out.swap(i as usize, j as usize);
+    out
 }
 
 // ---- single seconds
 
 // Few seconds only, many of them equal: ends and begins stand just the drift apart, or a second more or less, and half of the transactions take no time.
-fn with_close(x: Times, t: usize, r: u64) -> Times {
-    let step = (x.drift % 3601) as u64 + 1;
-    let begin = match below(r, 3) {
-        0 => 1000,
-        1 => 1000 + step,
-        _ => 1000 + 2 * step,
-    };
-    let more = below(next(r), 2) % 2;
-    with_span(x, t, begin % 65536 + more, below(next(next(r)), 2) % 2)
+fn close(out: &mut Spans, t: usize, drift: u32, r: u64) {
+    let step = u64::from(drift) + 1;
+    let begin = 1000 + step * below(r, 3);
+    let more = below(next(r), 2);
+    out.set(t, begin + more, below(next(next(r)), 2));
 }
 
 // A second at one end of the range or the other.
-fn second_by(drift: u64, r: u64) -> u64 {
-    let d = drift % 3601;
+fn second_by(drift: u32, r: u64) -> u64 {
+    let d = u64::from(drift);
     match below(r, 7) {
         0 => 0,
         1 => 1,
         2 => d,
         3 => TOP - 1,
         4 => TOP - d,
-        5 => TOP - d - 1,
+        5 => (TOP - d).saturating_sub(1),
         _ => TOP,
     }
 }
@@ -140,22 +170,21 @@ fn length_by(r: u64) -> u64 {
     }
 }
 
-// Both ends of the range, where the sum of an end and the drift may pass 32 bits.
-fn with_ends(x: Times, t: usize, r: u64) -> Times {
-    with_span(x, t, second_by(x.drift as u64, r), length_by(next(r)))
+// Few seconds only, each transaction's drawn for itself.
+fn all_close(drift: u32, seed: u64) -> Spans {
+    let mut out = Spans::new();
+    for t in 0..32 {
+        close(&mut out, t, drift, chance(seed, 730 + t as u64));
+    }
+    out
 }
 
-// Each transaction's drawn for itself, in one of the last two manners.
-fn alone(x: Times, manner: u8, seed: u64) -> Times {
-    let mut out = x;
-    for t in 0..32usize {
-        let r = at(seed, 730 + t as u64);
-        let more = if manner == CLOSE {
-            with_close(out, t, r)
-        } else {
-            with_ends(out, t, r)
-        };
-        out = more;
+// Both ends of the range, where the sum of an end and the drift may pass 32 bits, each transaction's drawn for itself.
+fn all_ends(drift: u32, seed: u64) -> Spans {
+    let mut out = Spans::new();
+    for t in 0..32 {
+        let r = chance(seed, 730 + t as u64);
+        out.set(t, second_by(drift, r), length_by(next(r)));
     }
     out
 }
@@ -163,30 +192,31 @@ fn alone(x: Times, manner: u8, seed: u64) -> Times {
 // ---- all manners
 
 // Times of so many transactions in a manner. The run is in the order.
-pub fn of_manner(manner: u8, size: u8, order: [u8; 32], seed: u64) -> Times {
-    let drift = drift_by(at(seed, 601));
-    let mut x = without(drift);
-    x.timed = true;
-    if manner > DISTURBED {
-        return alone(x, manner, seed);
+pub fn of_manner(manner: Manner, size: u8, order: &[u8; 32], seed: u64) -> Times {
+    let drift = drift_by(chance(seed, 601));
+    let gap = gap_by(drift, chance(seed, 602));
+    let spans = match manner {
+        Manner::Run => of_run(order, gap, seed),
+        Manner::Disturbed => of_run(&disturbed(order, size, seed), gap, seed),
+        Manner::Close => all_close(drift, seed),
+        Manner::Ends => all_ends(drift, seed),
+    };
+    Times {
+        spans: Some(spans),
+        drift,
     }
-    let gap = gap_by(drift, at(seed, 602));
-    if manner == DISTURBED {
-        return of_run(x, disturbed(order, size, seed), gap, seed);
-    }
-    of_run(x, order, gap, seed)
 }
 
 // Times of a manner drawn at random, or none.
-pub fn drawn(size: u8, order: [u8; 32], seed: u64) -> Times {
-    let n = below(at(seed, 600), 8);
+pub fn drawn(size: u8, order: &[u8; 32], seed: u64) -> Times {
+    let n = below(chance(seed, 600), 8);
     if n < 4 || size == 0 {
-        return without(drift_by(at(seed, 601)));
+        return Times::without(drift_by(chance(seed, 601)));
     }
-    of_manner((n % 4) as u8, size, order, seed)
+    of_manner(manner_by(n), size, order, seed)
 }
 
-// The order that the reads of a sample of so many transactions are those of a run in, but for the kind ANY.
+// The order that the reads of a sample of so many transactions are those of a run in, but for the kind `Any`.
 pub fn run_order(size: u8, seed: u64) -> [u8; 32] {
-    shuffled(size, at(seed, 300))
+    shuffled(size, chance(seed, 300))
 }

@@ -19,11 +19,10 @@ use Rattle.model.proofs.Loaded.{loaded, Bytes}
 use Rattle.model.proofs.Writing.{loads_tables}
 use Rattle.model.proofs.Logs.{has_log_out, has_log_of, has_log_in, good_narrow, log_good}
 use Rattle.writer.specs.Held.{held, held_log, is_open, with_transaction, with_operation, Sized}
-use Rattle.writer.specs.Calls.{fresh_notes, answering, open_refusal, opened_notes, opening, note_refusal, noted_notes, noting, close_refusal, closed_notes, closing, write_refusal, writing, buffer_after}
+use Rattle.writer.specs.Calls.{Noted, fresh_notes, answering, open_refusal, opened_notes, opening, note_refusal, noted_notes, noting, close_refusal, closed_notes, closing, write_refusal, writing, buffer_after}
 use Rattle.writer.specs.Again.{begun_notes, again_notes, noting_again}
 use Rattle.writer.specs.Runs.{Call, run, meant_by}
 use Rattle.writer.specs.declared.Notes.{Notes}
-use Rattle.writer.specs.declared.Noted.{Noted}
 use Rattle.writer.proofs.Answering.{taken, taken_notes, refused_notes}
 use Rattle.writer.proofs.Holding.{held_length, room_out, room_of, open_room, note_room, write_room}
 use Rattle.writer.proofs.Adding.{fresh_held, fresh_shut, held_size, close_held, close_shuts, open_held, open_opens, note_held, note_open}

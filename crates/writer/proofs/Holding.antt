@@ -5,12 +5,12 @@ use mathlib.Core.Path.{◌≡◌, refl, sym, ap, ap₂, subst, ◌∙◌}
 use mathlib.Core.Bool.{Bool, true, false, cond, ◌&&◌}
 use mathlib.Core.Logic.{◌≢◌}
 use mathlib.Core.List.{List, ◌++◌, append-nil, append_assoc}
-use borrow.Author.Tests.{ltb-true, ltb-false, le-leb, lt-leb, eq-eqb, ne_eqb}
+use borrow.Author.Tests.{ltb-true, ltb-false, eq-eqb, ne_eqb}
 use lib.Dec.{T, eqb, ltb, leb, leb→le, le→leb}
 use lib.ListN.{length, take, drop, length-append, length-drop}
 use lib.Seq.{take-append_seam, take_all, drop-length}
 use borrow.Rule.Slice.PartMut.{mid_of, put_mid, Post-is}
-use Rattle.model.specs.Log.{transactions_in, operations_in, count_at, or_else}
+use Rattle.model.specs.Log.{transactions_in, operations_in, count_at}
 use Rattle.model.specs.Writing.{sum_of, head_bytes, log_of, is_log, has_log}
 use Rattle.model.proofs.Basics.{and_l, and_r, and_in, false_eq, not_intro}
 use Rattle.model.proofs.Loaded.{loaded}
@@ -19,10 +19,8 @@ use Rattle.model.proofs.Logs.{has_log_out}
 use Rattle.writer.specs.Rows.{over, at, entry_rows, contents_rows, operation_in, body_rows}
 use Rattle.writer.specs.Held.{noted_in, held, held_log, is_open}
 use Rattle.writer.specs.Room.{narrow, in_room, Fits}
-use Rattle.writer.specs.Calls.{open_refusal, note_refusal, write_refusal, writing, buffer_after, noting, noted_at, noted_notes}
+use Rattle.writer.specs.Calls.{Noted, Written, open_refusal, note_refusal, write_refusal, writing, buffer_after, noting, noted_at, noted_notes}
 use Rattle.writer.specs.declared.Notes.{Notes}
-use Rattle.writer.specs.declared.Noted.{Noted}
-use Rattle.writer.specs.declared.Written.{Written}
 use Rattle.writer.proofs.Laying.{contents_length, bodies_length, over_more, over_length, laid_behind}
 use Rattle.writer.proofs.Counting.{narrow_in}
 use Rattle.writer.proofs.Answering.{taken}
@@ -64,29 +62,6 @@ module _ (n : Notes) where
         bytes = and_r (leb (noted_in n) 256) (narrow n.counts n.transactions) r;
       }
 
-  -- the same from the test's answer
-  pub room_by : (r : Bool) → r ≡ in_room n → r ≡ true → Room
-  room_by r e f = room_out (subst T (sym f ∙ e) tt)
-
-  pub room_not : {A : Type 0} (r : Bool) → r ≡ in_room n → r ≡ false → T (in_room n) → A
-  room_not r e f t = absurd (subst T (sym e ∙ f) t)
-
-  pub noted_is : (m : ℕ) → m ≡ sum_of (at n.counts) n.transactions → m ≡ noted_in n
-  unfolding noted_in
-  noted_is m e = e
-
-  pub beyond_transactions : 32 < n.transactions → false ≡ in_room n
-  unfolding in_room
-  beyond_transactions l = simp (lt-leb n.transactions 32 l)
-
-  pub beyond_operations : (m : ℕ) → n.transactions ≤ 32 → m ≡ sum_of (at n.counts) n.transactions → 256 < m → false ≡ in_room n
-  unfolding in_room
-  beyond_operations m l e b = simp (le-leb n.transactions 32 l, lt-leb (noted_in n) 256 (omega (arith, noted_is m e)))
-
-  pub by_bytes : (m : ℕ) (r : Bool) → n.transactions ≤ 32 → m ≡ sum_of (at n.counts) n.transactions → m ≤ 256 → r ≡ narrow n.counts n.transactions → r ≡ in_room n
-  unfolding in_room
-  by_bytes m r l e b f = f ∙ simp (le-leb n.transactions 32 l, le-leb (noted_in n) 256 (omega (arith, noted_is m e)))
-
   pub fits : (room : ℕ) → 1156 ≤ room → in_room n ≡ true → Fits n room
   fits room l e =
       let t : T (in_room n) = subst T (sym e) tt in
@@ -115,36 +90,25 @@ module _ (n : Notes) where
   pub no_log : (r : Bool) → r ≡ in_room n → r ≡ false → false ≡ has_log (held n)
   no_log r e f = sym (false_eq (has_log (held n)) (not_intro (has_log (held n)) (λ t. subst T (sym e ∙ f) (room_of t))))
 
+  -- notes that have a log are within the room
+  pub room_by : (r : Bool) → r ≡ has_log (held n) → r ≡ true → Room
+  room_by r e f = room_out (room_of (subst T (sym f ∙ e) tt))
+
   -- the log stands in the first places of what it was laid over
   pub log_is : (x y : List ℕ) (m : ℕ) (r : Bool) → y ≡ over x 0 (held_log n) → m ≡ length (held_log n) → r ≡ is_log (take m y) → r ≡ has_log (held n)
   unfolding has_log held_log over
   log_is x y m r f g h = h ∙ ap is_log (ap₂ take g f ∙ take-append_seam (held_log n) (drop (0 + length (held_log n)) x))
 
-  -- 33, then 25
-  pub write_number : (content buffer room : ℕ) → is_open n ≡ false → content ≡ cond (has_log (held n)) 0 33
-      → (T (in_room n) → buffer ≡ cond (ltb room (length (held_log n))) 25 0) → or_else content buffer ≡ write_refusal n room
-  unfolding write_refusal
-  write_number content buffer room shut is short =
-      ap (λ x. or_else x buffer) is
-      ∙ go (has_log (held n)) (λ t. room_of t)
-      ∙ ap {B = ℕ} (λ b. cond b 32 (cond (has_log (held n)) (cond (ltb room (length (held_log n))) 25 0) 33)) (sym shut)
-    where
-      go : (b : Bool) → (T b → T (in_room n)) → ◌≡◌ {A = ℕ} (or_else (cond b 0 33) buffer) (cond b (cond (ltb room (length (held_log n))) 25 0) 33)
-      go true r = short (r tt)
-      go false r = refl
-
   -- the contents and the bodies, one after the other, are the log
-  log_laid : (x z w : List ℕ) (m p : ℕ) → length (held_log n) ≤ length x → m ≡ sum_of (at n.counts) n.transactions → z ≡ over x 0 (contents m)
+  log_laid : (x z w : List ℕ) (m p : ℕ) → length (held_log n) ≤ length x → m ≡ noted_in n → z ≡ over x 0 (contents (noted_in n))
       → p ≡ 4 + 4 * n.transactions → w ≡ over (drop p z) 0 (bodies m) → take p z ++ w ≡ over x 0 (held_log n)
-  log_laid x z w m p l total contents-are p-is bodies_are =
-      let mi : m ≡ noted_in n = noted_is m total in
-      let z-is : z ≡ over x 0 (contents (noted_in n)) = contents-are ∙ ap (λ u. over x 0 (contents u)) mi in
+  log_laid x z w m p l m-is contents-are p-is bodies_are =
       let len : length (contents (noted_in n)) ≡ 4 + 4 * n.transactions = contents_length n.cabinets n.counts n.transactions (noted_in n) in
-      let long : length z ≡ length x = ap length z-is ∙ over_length x (contents (noted_in n)) 0 (omega (arith, held_length)) in
+      let long : length z ≡ length x = ap length contents-are ∙ over_length x (contents (noted_in n)) 0 (omega (arith, held_length)) in
       ap (λ u. take p z ++ u) bodies_are
       ∙ laid_behind z (bodies m) p (omega (arith, held_length))
-      ∙ ap (λ u. over z p (bodies u)) mi
-      ∙ ap₂ (λ u v. over u v (bodies (noted_in n))) z-is (p-is ∙ omega (arith, len))
+      ∙ ap (λ u. over z p (bodies u)) m-is
+      ∙ ap₂ (λ u v. over u v (bodies (noted_in n))) contents-are (p-is ∙ omega (arith, len))
       ∙ over_more x (contents (noted_in n)) (bodies (noted_in n)) 0 (omega arith)
       ∙ ap (over x 0) (sym held_log_lem)
 
@@ -239,31 +203,31 @@ mid_all p z = take_all (length z - p) (drop p z) (omega (arith, length-drop p z)
 given_back : (p : ℕ) (z w : List ℕ) → p ≤ length z → put_mid p (length z - p) z w ≡ take p z ++ w
 given_back p z w l = ap (λ r. take p z ++ (w ++ r)) (Post-is p (length z) z l ∙ drop-length z) ∙ ap (λ r. take p z ++ r) (append-nil w)
 
-module _ (n : Notes) (x z : List ℕ) (m : ℕ) (l : length (held_log n) ≤ length x) (contents-are : z ≡ over x 0 (contents n m)) where
+module _ (n : Notes) (x z : List ℕ) (l : length (held_log n) ≤ length x) (contents-are : z ≡ over x 0 (contents n (noted_in n))) where
   -- the contents leave the buffer's length
   contents_long : length z ≡ length x
   contents_long =
       ap length contents-are
-      ∙ over_length x (contents n m) 0 (omega (arith, held_length n, contents_length n.cabinets n.counts n.transactions m))
+      ∙ over_length x (contents n (noted_in n)) 0 (omega (arith, held_length n, contents_length n.cabinets n.counts n.transactions (noted_in n)))
 
   module _ (p : ℕ) (p-is : p ≡ 4 + 4 * n.transactions) where
     pub part_fits : p ≤ length z
     part_fits = omega (arith, contents_long, held_length n)
 
-    module _ (total : m ≡ sum_of (at n.counts) n.transactions) where
+    module _ (m : ℕ) (m-is : m ≡ noted_in n) where
       pub part_long : 4 * m ≤ length (mid_of p (length z - p) z)
-      part_long = omega (arith, ap length (mid_all p z), length-drop p z, contents_long, held_length n, noted_is n m total)
+      part_long = omega (arith, ap length (mid_all p z), length-drop p z, contents_long, held_length n)
 
       pub parts_laid : (w : List ℕ) → w ≡ over (mid_of p (length z - p) z) 0 (bodies n m) → put_mid p (length z - p) z w ≡ over x 0 (held_log n)
       parts_laid w bodies_are =
           given_back p z w part_fits
-          ∙ log_laid n x z w m p l total contents-are p-is (bodies_are ∙ ap (λ u. over u 0 (bodies n m)) (mid_all p z))
+          ∙ log_laid n x z w m p l m-is contents-are p-is (bodies_are ∙ ap (λ u. over u 0 (bodies n m)) (mid_all p z))
 
 -- ---- a note that is taken
 
-pub note_taken : (n r : Notes) (kind key argument i number : ℕ) → number ≡ note_refusal n → number ≡ 0 → i ≡ sum_of (at n.counts) n.transactions
+pub note_taken : (n r : Notes) (kind key argument i number : ℕ) → number ≡ note_refusal n → number ≡ 0 → i ≡ noted_in n
     → r ≡ noted_at n i kind key argument → record { number = 0; notes = r } ≡ noting n kind key argument
 unfolding noting noted_notes
 note_taken n r kind key argument i number is none e f =
-    ap {B = Noted} (λ x. record { number = 0; notes = x }) (f ∙ ap (λ j. noted_at n j kind key argument) (noted_is n i e))
+    ap {B = Noted} (λ x. record { number = 0; notes = x }) (f ∙ ap (λ j. noted_at n j kind key argument) e)
     ∙ taken (note_refusal n) number n (noted_notes n kind key argument) is none

@@ -1,12 +1,13 @@
 -- Rows laid over a buffer, one after another. Assumes nothing.
-use Prim.Native.Nat.{ℕ, zero, suc, ◌+◌, ◌*◌, ◌/◌, ◌%◌, ◌≤◌, ◌<◌}
+use Prim.Native.Nat.{ℕ, zero, suc, ◌+◌, ◌-◌, ◌*◌, ◌/◌, ◌%◌, ◌≤◌, ◌<◌}
 use native.Mathlib.Omega.{arith}
 use native.Mathlib.Numerals.{add-one}
 use mathlib.Core.Path.{◌≡◌, refl, sym, ap, ap₂, ◌∙◌}
 use mathlib.Core.List.{List, [], ◌∷◌, ◌++◌, append_assoc}
-use lib.ListN.{length, set, take, drop, length-append, length-drop, take-append-drop}
-use lib.Seq.{sets-eq, length-take-le, take_at, drop-append-add, drop-drop}
+use lib.ListN.{length, take, drop, length-append, length-drop, take-append-drop}
+use lib.Seq.{length-take-le, take_at, drop-append-add, drop-drop}
 use lib.Dec.{T, ltb, ltb→lt}
+use borrow.Rule.Slice.PartMut.{put_mid, Post-is}
 use Rattle.model.specs.Lists.{each, up_to}
 use Rattle.model.specs.Writing.{sum_of, head_bytes, entry_bytes, body_bytes}
 use Rattle.model.proofs.Basics.{all_up_to_out}
@@ -41,19 +42,6 @@ unfolding over
 over_length x row p l =
     length-append (take p x) (row ++ drop (p + length row) x)
     ∙ omega (arith, length-take-le p x (omega arith), length-append row (drop (p + length row) x), length-drop (p + length row) x)
-
--- four stores
-pub over_four : (x : List ℕ) (p a b c d : ℕ) → p + 4 ≤ length x
-    → set (set (set (set x p a) (p + 1) b) (p + 2) c) (p + 3) d ≡ over x p (a ∷ b ∷ c ∷ d ∷ [])
-unfolding over
-over_four x p a b c d l =
-    let e1 : p + 1 ≡ suc p = omega arith in
-    let e2 : p + 2 ≡ suc (suc p) = omega arith in
-    let e3 : p + 3 ≡ suc (suc (suc p)) = omega arith in
-    ap₂ (λ i j. set (set (set (set x p a) i b) j c) (p + 3) d) e1 e2
-    ∙ ap (λ i. set (set (set (set x p a) (suc p) b) (suc (suc p)) c) i d) e3
-    ∙ sets-eq (a ∷ b ∷ c ∷ d ∷ []) x p l
-    ∙ append_assoc (take p x) (a ∷ b ∷ c ∷ d ∷ []) (drop (p + 4) x)
 
 -- one row more
 pub laid_next : (x rows row rows' y z : List ℕ) (p q : ℕ) → p ≤ length x → y ≡ over x p rows → q ≡ p + length rows → z ≡ over y q row → rows ++ row ≡ rows'
@@ -112,18 +100,21 @@ module _ (kinds keys arguments : List ℕ) where
 
 -- ---- one round of each loop
 
-pub row_laid : (x : List ℕ) (p a b pair lo hi : ℕ) → p + 4 ≤ length x → lo ≡ pair % 256 → hi ≡ pair / 256
-    → set (set (set (set x p a) (p + 1) b) (p + 2) lo) (p + 3) hi ≡ over x p (row_bytes a b pair)
-row_laid x p a b pair lo hi l e f = over_four x p a b lo hi l ∙ ap₂ (λ u v. over x p (a ∷ b ∷ u ∷ v ∷ [])) e f
+pub row_put : (x w : List ℕ) (p a b pair : ℕ) → p + 4 ≤ length x → w ≡ row_bytes a b pair → put_mid p (p + 4 - p) x w ≡ over x p (row_bytes a b pair)
+unfolding over
+row_put x w p a b pair l e = ap₂ (λ u v. take p x ++ (u ++ v)) e (Post-is p (p + 4) x (omega arith))
 
-pub entry_laid : (x y z cabinets counts : List ℕ) (t start count byte : ℕ) → 4 ≤ length x → at counts t < 256
-    → y ≡ over x 4 (entry_rows cabinets counts t) → start ≡ sum_of (at counts) t → count ≡ at counts t → byte ≡ count % 256
-    → z ≡ over y (4 + 4 * t) (row_bytes (at cabinets t) byte start) → z ≡ over x 4 (entry_rows cabinets counts (t + 1))
-entry_laid x y z cabinets counts t start count byte l small was sum is low_is now_is =
-    let narrow-is : byte ≡ at counts t = omega arith in
+-- the two bytes of a field
+pub pair_bytes : (pair : ℕ) (w : List ℕ) → pair < 65536 → w ≡ (pair % 256) ∷ (pair / 256 % 256) ∷ [] → (at w 0 ≡ pair % 256) × (at w 1 ≡ pair / 256)
+pair_bytes pair w l e = (ap (λ r. at r 0) e, ap (λ r. at r 1) e ∙ omega arith)
+
+pub entry_laid : (x y z cabinets counts : List ℕ) (t start : ℕ) → 4 ≤ length x
+    → y ≡ over x 4 (entry_rows cabinets counts t) → start ≡ sum_of (at counts) t
+    → z ≡ over y (4 + 4 * t) (row_bytes (at cabinets t) (at counts t) start) → z ≡ over x 4 (entry_rows cabinets counts (t + 1))
+entry_laid x y z cabinets counts t start l was sum now_is =
     laid_next x (entry_rows cabinets counts t) (row_bytes (at cabinets t) (at counts t) (sum_of (at counts) t)) (entry_rows cabinets counts (t + 1)) y z 4 (4 + 4 * t) l was
     (omega (arith, entries_length cabinets counts t))
-    (now_is ∙ ap₂ (λ u v. over y (4 + 4 * t) (row_bytes (at cabinets t) u v)) narrow-is sum)
+    (now_is ∙ ap (λ v. over y (4 + 4 * t) (row_bytes (at cabinets t) (at counts t) v)) sum)
     (entries_next cabinets counts t)
 
 -- T and N, and behind them the entries
@@ -140,22 +131,18 @@ unfolding contents_rows
 contents_length cabinets counts n m =
     length-append (head_bytes n m) (entry_rows cabinets counts n) ∙ omega (arith, entries_length cabinets counts n)
 
-pub body_laid : (x y z kinds keys arguments : List ℕ) (i argument : ℕ)
-    → y ≡ over x 0 (body_rows kinds keys arguments i) → argument ≡ at arguments i
-    → z ≡ over y (4 * i) (row_bytes (at kinds i) (at keys i) argument) → z ≡ over x 0 (body_rows kinds keys arguments (i + 1))
-body_laid x y z kinds keys arguments i argument was is now_is =
+pub body_laid : (x y z kinds keys arguments : List ℕ) (i : ℕ)
+    → y ≡ over x 0 (body_rows kinds keys arguments i)
+    → z ≡ over y (4 * i) (row_bytes (at kinds i) (at keys i) (at arguments i)) → z ≡ over x 0 (body_rows kinds keys arguments (i + 1))
+body_laid x y z kinds keys arguments i was now_is =
     laid_next x (body_rows kinds keys arguments i) (row_bytes (at kinds i) (at keys i) (at arguments i)) (body_rows kinds keys arguments (i + 1)) y z 0 (4 * i) (omega arith) was
     (omega (arith, bodies_length kinds keys arguments i))
-    (now_is ∙ ap (λ u. over y (4 * i) (row_bytes (at kinds i) (at keys i) u)) is)
+    now_is
     (bodies_next kinds keys arguments i)
 
 pub entries_room : (x y cabinets counts : List ℕ) (t n : ℕ) → t ≤ n → 4 + 4 * n ≤ length x → y ≡ over x 4 (entry_rows cabinets counts t) → length y ≡ length x
 entries_room x y cabinets counts t n l k e =
     ap length e ∙ over_length x (entry_rows cabinets counts t) 4 (omega (arith, entries_length cabinets counts t))
-
-pub bodies_room : (x y kinds keys arguments : List ℕ) (i n : ℕ) → i ≤ n → 4 * n ≤ length x → y ≡ over x 0 (body_rows kinds keys arguments i) → length y ≡ length x
-bodies_room x y kinds keys arguments i n l k e =
-    ap length e ∙ over_length x (body_rows kinds keys arguments i) 0 (omega (arith, bodies_length kinds keys arguments i))
 
 pub laid_length : (x y row : List ℕ) (p : ℕ) → y ≡ over x p row → p + length row ≤ length x → length y ≡ length x
 laid_length x y row p e l = ap length e ∙ over_length x row p l

@@ -19,13 +19,14 @@ use Rattle.model.proofs.Loops.{each_snoc, map_snoc}
 use Rattle.model.proofs.Loaded.{Loaded, loaded, Bytes, body_good}
 use Rattle.model.proofs.Writing.{sum_suc, sum_mono, counts_sum, from_size, from_suc, from_operations, history_from_lem, same_bytes}
 use Rattle.model.proofs.Logs.{has_log_of}
-use Rattle.logs.specs.Reading.{InLog, IsOperation}
+use Rattle.std.specs.Prelude.{Result, IsOk}
+use Rattle.refusals.specs.declared.Refusal.{Refusal}
+use Rattle.logs.specs.Reading.{IsOperation}
 use Rattle.writer.specs.Held.{noted_in, held, held_log, is_open, with_operation, Sized}
-use Rattle.writer.specs.Calls.{fresh_notes, open_refusal, opened_notes, opening, note_refusal, noted_at, noted_notes, noting, close_refusal, closed_notes, closing, write_refusal, writing, buffer_after}
+use Rattle.writer.specs.Calls.{Noted, noted_by, answering, fresh_notes, open_refusal, opened_notes, opening, note_refusal, noted_at, noted_notes, noting, close_refusal, closed_notes, closing, write_refusal, writing, buffer_after}
 use Rattle.writer.specs.Again.{operation_noted, operations_noted, begun_notes, next_notes, again_notes, noting_again}
 use Rattle.writer.specs.declared.Notes.{Notes}
-use Rattle.writer.specs.declared.Noted.{Noted}
-use Rattle.writer.proofs.Answering.{refused, taken, taken_notes}
+use Rattle.writer.proofs.Answering.{refused, taken, taken_notes, ok_by}
 use Rattle.writer.proofs.Holding.{note_room}
 use Rattle.writer.proofs.Adding.{shut, with_last, fresh_held, fresh_sized, close_held, close_sized, held_size, held_noted, open_sized, open_held, note_sized, note_held}
 
@@ -225,48 +226,51 @@ module _ (b : List ℕ) (small : Bytes b) (zero_is : load_number b ≡ 0) where
 
 -- ---- as the code goes
 
-module _ (b : List ℕ) (t : ℕ) where
-  pub noted_as : (n : Notes) (m kind key argument which : ℕ) (r : Noted) → IsOperation b t m kind key argument → which ≡ kind → r ≡ noting n which key argument
-      → r.notes ≡ (operation_noted b n t m).notes
-  unfolding operation_noted
-  noted_as n m kind key argument which r is same e =
+-- what is no read is a write
+pub is_write_lem : (b : List ℕ) (t m kind key argument : ℕ) → load_number b ≡ 0 → t < transactions_in b → m < count_at b t → IsOperation b t m kind key argument → kind ≢ 0 → 1 ≡ kind
+is_write_lem b t m kind key argument loads inside l is f =
+    let low = (body_good b (loaded b loads) t m inside l).kind in
+    one kind (omega (arith, is.kind_is)) f
+  where
+    one : (k : ℕ) → k ≤ 1 → k ≢ 0 → 1 ≡ k
+    one zero l f = absurd (f refl)
+    one (suc k) l f = omega arith
+
+-- a call that is taken, by what it answers and leaves
+taken_call : {X : Type 0} (r : Result X Refusal) (x : Notes) (y : Noted) → noted_by r x ≡ y → y.number ≡ 0 → IsOk r × (x ≡ y.notes)
+taken_call r x y e z = (ok_by r (ap (λ (w : Noted). w.number) e ∙ z), ap (λ (w : Noted). w.notes) e)
+
+module _ (b : List ℕ) (t : ℕ) (loads : load_number b ≡ 0) (inside : t < transactions_in b) where
+  abbrev before : Notes
+  before = again_notes b t
+
+  pub opened_now : {X : Type 0} (r : Result X Refusal) (n x : Notes) (cabinet : ℕ) → n ≡ before → cabinet ≡ cabinet_at b t → noted_by r x ≡ opening n cabinet
+      → IsOk r × (x ≡ begun_notes b before t 0)
+  unfolding begun_notes operations_noted opening answering
+  opened_now r n x cabinet e f h =
+      taken_call r x (opening before (cabinet_at b t)) (h ∙ ap₂ opening e f) (opens b (loaded b loads) t inside)
+
+  pub noted_now : {X : Type 0} (r : Result X Refusal) (n x : Notes) (m kind key argument which : ℕ) → m < count_at b t → IsOperation b t m kind key argument → which ≡ kind
+      → n ≡ begun_notes b before t m → noted_by r x ≡ noting n which key argument → IsOk r × (x ≡ begun_notes b before t (m + 1))
+  unfolding begun_notes operations_noted operation_noted noting answering
+  noted_now r n x m kind key argument which l is same e h =
       let i = start_at b t + m in
-      ap (λ (x : Noted). x.notes)
-      (e ∙ ap (λ x. noting n x key argument) (same ∙ is.kind_is) ∙ ap₂ (λ x y. noting n (kind_at b i) x y) is.key_is is.argument_is)
+      let p = taken_call r x (noting (begun_notes b before t m) (kind_at b i) (key_at b i) (argument_at b i))
+      (h ∙ ap₂ (λ y w. noting y w key argument) e (same ∙ is.kind_is) ∙ ap₂ (λ v w. noting (begun_notes b before t m) (kind_at b i) v w) is.key_is is.argument_is)
+      (notes_each b (loaded b loads) t m inside l) in
+      (p.0, p.1 ∙ ap (begun_notes b before t) (sym (add-one m)))
 
-  -- what is no read is a write
-  pub is_write_lem : (m kind key argument : ℕ) → InLog b t → m < count_at b t → IsOperation b t m kind key argument → kind ≢ 0 → 1 ≡ kind
-  is_write_lem m kind key argument in-log l is f =
-      let low = (body_good b (loaded b in-log.loads) t m in-log.below l).kind in
-      one kind (omega (arith, is.kind_is)) f
-    where
-      one : (k : ℕ) → k ≤ 1 → k ≢ 0 → 1 ≡ k
-      one zero l f = absurd (f refl)
-      one (suc k) l f = omega arith
-
-  pub none_noted : (n : Notes) → n ≡ operations_noted b n t 0
-  unfolding operations_noted
-  none_noted n = refl
-
-  pub more_noted : (n x y : Notes) (m : ℕ) → x ≡ operations_noted b n t m → y ≡ (operation_noted b x t m).notes → y ≡ operations_noted b n t (m + 1)
-  unfolding operations_noted
-  more_noted n x y m e f = f ∙ ap (λ z. (operation_noted b z t m).notes) e ∙ ap (operations_noted b n t) (sym (add-one m))
-
-  pub transaction_noted : (n x : Notes) (opened closed : Noted) (cabinet m : ℕ) → opened ≡ opening n cabinet → cabinet ≡ cabinet_at b t → x ≡ operations_noted b opened.notes t m
-      → m ≡ count_at b t → closed ≡ closing x → closed.notes ≡ next_notes b n t
-  unfolding next_notes begun_notes
-  transaction_noted n x opened closed cabinet m e f g h k =
-      let o : opened.notes ≡ (opening n (cabinet_at b t)).notes = ap (λ (z : Noted). z.notes) (e ∙ ap (opening n) f) in
-      ap (λ (z : Noted). z.notes) (k ∙ ap closing (g ∙ ap₂ (λ u v. operations_noted b u t v) o h))
+  pub closed_now : {X : Type 0} (r : Result X Refusal) (n x : Notes) (m : ℕ) → m ≡ count_at b t → n ≡ begun_notes b before t m → noted_by r x ≡ closing n
+      → IsOk r × (x ≡ again_notes b (t + 1))
+  unfolding again_notes next_notes closing answering
+  closed_now r n x m f e h =
+      let p = taken_call r x (closing (begun_notes b before t (count_at b t))) (h ∙ ap closing (e ∙ ap (begun_notes b before t) f)) (closes b (loaded b loads) t inside) in
+      (p.0, p.1 ∙ ap (again_notes b) (sym (add-one t)))
 
 module _ (b : List ℕ) where
   pub again_none : (n : Notes) → n ≡ fresh_notes → n ≡ again_notes b 0
   unfolding again_notes
   again_none n e = e
-
-  pub again_more : (x y : Notes) (t : ℕ) → x ≡ again_notes b t → y ≡ next_notes b x t → y ≡ again_notes b (t + 1)
-  unfolding again_notes
-  again_more x y t e f = f ∙ ap (λ z. next_notes b z t) e ∙ ap (again_notes b) (sym (add-one t))
 
   pub again_refused : (f : Notes) (r : ℕ) → f ≡ fresh_notes → r ≡ load_number b → r ≢ 0 → record { number = r; notes = f } ≡ noting_again b
   unfolding noting_again

@@ -1,9 +1,8 @@
 -- A loaded log noted again: the calls, in the log's own order. Assumes nothing.
 use Rattle.std.specs.Prelude.{ℕ, zero, suc, ◌+◌, List}
 use Rattle.model.specs.Log.{transactions_in, cabinet_at, count_at, start_at, kind_at, key_at, argument_at, load_number}
-use Rattle.writer.specs.Calls.{fresh_notes, answering, opening, noting, closing}
+use Rattle.writer.specs.Calls.{Noted, fresh_notes, answering, opening, noting, closing}
 use Rattle.writer.specs.declared.Notes.{Notes}
-use Rattle.writer.specs.declared.Noted.{Noted}
 
 -- operation m of transaction t is noted
 unfoldable pub operation_noted : List ℕ → Notes → ℕ → ℕ → Noted

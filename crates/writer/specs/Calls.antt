@@ -1,11 +1,30 @@
 -- The calls of the writer: with which number each refuses, and what it gives and leaves. Assumes nothing.
-use Rattle.std.specs.Prelude.{ℕ, ◌+◌, ◌-◌, true, false, cond, List, ◌++◌, eqb, ltb, length, set, drop, replicate}
+use Rattle.std.specs.Result.{result_unwrap_or}
+use Rattle.std.specs.Prelude.{ℕ, Result, ◌+◌, ◌-◌, true, false, cond, List, ◌++◌, eqb, ltb, length, set, drop, replicate}
 use Rattle.writer.specs.Rows.{at}
 use Rattle.model.specs.Writing.{has_log}
 use Rattle.writer.specs.Held.{noted_in, held, held_log, is_open}
+use Rattle.refusals.specs.declared.Refusal.{Refusal}
+use Rattle.refusals.specs.Numbers.{number_of}
 use Rattle.writer.specs.declared.Notes.{Notes}
-use Rattle.writer.specs.declared.Noted.{Noted}
-use Rattle.writer.specs.declared.Written.{Written}
+
+-- what a call gives: the number of a refusal, or 0, and the notes after the call
+pub record Noted : Type 0 where
+  pub number : ℕ
+  pub notes : Notes
+
+-- what a writing gives: the number of a refusal, or 0, the length of the log that was written, or 0, and the notes after it
+pub record Written : Type 0 where
+  pub number : ℕ
+  pub length : ℕ
+  pub notes : Notes
+
+-- the same of an answer and the notes after it
+abbrev pub noted_by : {X : Type 0} → Result X Refusal → Notes → Noted
+noted_by r n = record { number = number_of r; notes = n }
+
+abbrev pub written_by : Result ℕ Refusal → Notes → Written
+written_by r n = record { number = number_of r; length = result_unwrap_or r 0; notes = n }
 
 -- nothing noted
 unfoldable pub fresh_notes : Notes

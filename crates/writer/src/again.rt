@@ -1,41 +1,34 @@
-// A loaded log noted again, transaction by transaction and operation by operation, in its own order.
-ghost use Rattle.std.specs.Prelude.{◌≡◌, ◌<◌};
-ghost use Rattle.model.specs.Log.{count_at};
-ghost use Rattle.logs.specs.Reading.{InLog};
-ghost use Rattle.writer.specs.Again.{operation_noted, next_notes};
+// A loaded log noted again, transaction by transaction and operation by operation, in its own order. Every call on the way is taken.
+ghost use Rattle.std.specs.Prelude.{◌≡◌, ◌+◌, ◌<◌};
+ghost use Rattle.model.specs.Log.{transactions_in, count_at};
+ghost use Rattle.writer.specs.Again.{begun_notes, again_notes};
 
 use crate::Notes;
+use logs::Log;
 
 // Notes operation m of transaction t.
-fn note_operation(notes: Notes, log: &[u8], t: usize, m: usize) -> Notes
-    requires { InLog log.now t × (m < count_at log.now t) }
-    ensures { result ≡ (operation_noted log.now notes t m).notes }
+fn note_operation(notes: &mut Notes, log: Log<'_>, t: usize, m: usize)
+    requires { (t < transactions_in log.bytes.now) × (m < count_at log.bytes.now t) × (notes.old ≡ begun_notes log.bytes.now (again_notes log.bytes.now t) t m) }
+    ensures { notes.new ≡ begun_notes log.entry.bytes.now (again_notes log.entry.bytes.now t) t (m + 1) }
 {
-    let o = logs::operation(log, t, m);
+    let o = log.operation(t, m);
     let key = o.key as u8;
     let argument = o.argument as u16;
     if o.kind == 0 {
-        let read = notes.note_read(key, argument);
-        return read.notes;
+        notes.note_read(key, argument).unwrap();
+    } else {
+        notes.note_write(key, argument).unwrap();
     }
-    let written = notes.note_write(key, argument);
-    written.notes
 }
 
 // Opens transaction t, notes its operations and closes it.
-pub(crate) fn note_transaction(notes: Notes, log: &[u8], t: usize) -> Notes
-    requires { InLog log.now t }
-    ensures { result ≡ next_notes log.now notes t }
+pub(crate) fn note_transaction(notes: &mut Notes, log: Log<'_>, t: usize)
+    requires { (t < transactions_in log.bytes.now) × (notes.old ≡ again_notes log.bytes.now t) }
+    ensures { notes.new ≡ again_notes log.entry.bytes.now (t + 1) }
 {
-    let cabinet = logs::cabinet(log, t);
-    let count = logs::count(log, t);
-    let opened = notes.open(cabinet as u8);
-    let mut begun = opened.notes;
-    let mut m: usize = 0;
-    while m < count {
-        begun = note_operation(begun, log, t, m);
-        m += 1;
+    notes.open(log.cabinet(t) as u8).unwrap();
+    for m in 0..log.count(t) {
+        note_operation(notes, log, t, m);
     }
-    let closed = begun.close();
-    closed.notes
+    notes.close().unwrap();
 }

@@ -1,41 +1,30 @@
 // The counts of operations in notes: their sum, and whether each has its byte in a log.
-ghost use Rattle.std.specs.Prelude.{◌≡◌, ◌<◌, ◌≤◌};
-ghost use Rattle.model.specs.Writing.{sum_of};
-ghost use Rattle.writer.specs.Rows.{at};
-ghost use Rattle.writer.specs.Room as Room;
+ghost use Rattle.std.specs.Prelude.{◌≡◌, ◌<◌, ◌≤◌, ◌↔◌, IsTrue, EachIndex, sum, length, slice_index};
+ghost use Rattle.writer.specs.Held.{noted_in};
 
-// A count, as it is.
-pub(crate) fn wide(x: u16) -> usize
-    ensures { (result ≡ x) × (result < 65536) }
+use crate::Notes;
+
+// The sum of the counts.
+fn total(counts: &[u16]) -> usize
+    requires { length counts.now ≤ 32 }
+    ensures { result ≡ sum counts.now }
 {
-    x as usize
+    counts.iter().map(|c| usize::from(*c)).sum()
 }
 
-// The sum of the first n counts.
-pub(crate) fn total(counts: [u16; 32], n: usize) -> usize
-    requires { n ≤ 32 }
-    ensures { result ≡ sum_of (at counts) n }
+// Whether each of the counts has its byte.
+pub(crate) fn narrow(counts: &[u16]) -> bool
+    ensures { IsTrue result ↔ EachIndex counts.now (λ t. slice_index counts.now t < 256) }
 {
-    let mut sum: usize = 0;
-    let mut t: usize = 0;
-    while t < n {
-        sum += wide(counts[t]);
-        t += 1;
-    }
-    sum
+    counts.iter().all(|c| *c < 256)
 }
 
-// Whether each of the first n counts has its byte.
-pub(crate) fn narrow(counts: [u16; 32], n: usize) -> bool
-    requires { n ≤ 32 }
-    ensures { result ≡ Room.narrow counts n }
-{
-    let mut t: usize = 0;
-    while t < n {
-        if wide(counts[t]) > 255 {
-            return false;
-        }
-        t += 1;
+impl Notes {
+    // How many operations are noted.
+    pub(crate) fn noted(&self) -> usize
+        requires { self.now.transactions ≤ 32 }
+        ensures { result ≡ noted_in self.now }
+    {
+        total(&self.counts[..self.transactions])
     }
-    true
 }

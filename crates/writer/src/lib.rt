@@ -1,11 +1,14 @@
 // A writer of logs: a transaction is opened with a cabinet, reads and writes are noted, it is closed, and at the end the log is written.
-// Notes go into each call by value and come back from it in the answer. Anyone may put notes together; no call requires anything.
+// A refused call leaves the notes as found. Anyone may put notes together; no call requires anything.
 #![tactic(auto)]
 
-ghost use Rattle.std.specs.Prelude.{◌≡◌, ◌-◌, ◌<◌, ◌≤◌, length};
-ghost use Rattle.writer.specs.Rows.{at};
-ghost use Rattle.writer.specs.Calls.{fresh_notes, opening, noted_at, noting, closing, writing, buffer_after};
+ghost use Rattle.std.specs.Prelude.{◌≡◌, length};
+ghost use Rattle.std.specs.Result.{result_unwrap_or};
+ghost use Rattle.writer.specs.Calls.{noted_by, written_by, fresh_notes, opening, noting, closing, writing, buffer_after};
 ghost use Rattle.writer.specs.Again.{noting_again};
+
+use logs::Log;
+use refusals::Refusal;
 
 mod again;
 mod counts;
@@ -13,8 +16,8 @@ mod rows;
 mod tests;
 
 // The notes: whether a transaction is open, the count of transactions, the cabinet and the count of operations of each, and the operations of all,
-// one after another: kind (0 read, 1 write), key and argument.
-#[derive(Clone, Copy)]
+// one after another: kind (0 read, 1 write), key and argument. They are tables side by side, since the definitions of specs/ and callers name each of them.
+#[derive(Clone, Copy, PartialEq, Eq)]
 pub struct Notes {
     pub opened: bool,
     pub transactions: usize,
@@ -25,23 +28,9 @@ pub struct Notes {
     pub arguments: [u16; 256],
 }
 
-// The number of a refusal, or 0, and the notes after the call.
-#[derive(Clone, Copy)]
-pub struct Noted {
-    pub number: u8,
-    pub notes: Notes,
-}
-
-// The number of a refusal, or 0, the length of the log that was written, or 0, and the notes as found.
-#[derive(Clone, Copy)]
-pub struct Written {
-    pub number: u8,
-    pub length: usize,
-    pub notes: Notes,
-}
-
 impl Notes {
     // Nothing noted.
+    #[tactic(auto, unfolding(crate::specs::Calls::fresh_notes))]
     pub fn fresh() -> Notes
         ensures { result ≡ fresh_notes }
     {
@@ -57,126 +46,73 @@ impl Notes {
     }
 
     // Opens a transaction.
-    pub fn open(mut self, cabinet: u8) -> Noted
-        ensures { result ≡ opening self cabinet }
+    pub fn open(&mut self, cabinet: u8) -> Result<(), Refusal>
+        ensures { noted_by result self.new ≡ opening self.old cabinet }
     {
-        let number = tests::open_refusal(self);
-        if number != 0 {
-            return Noted {
-                number,
-                notes: self,
-            };
-        }
+        self.test_open()?;
         let t = self.transactions;
         self.opened = true;
         self.transactions = t + 1;
         self.cabinets[t] = cabinet;
         self.counts[t] = 0;
-        Noted {
-            number: 0,
-            notes: self,
-        }
-    }
-
-    // The notes with operation i noted, of the last transaction.
-    fn noted_at(mut self, i: usize, kind: u8, key: u8, argument: u16) -> Notes
-        requires { (0 < self.transactions) × ((self.transactions ≤ 32) × ((i < 256) × (at self.counts (self.transactions - 1) < 256))) }
-        ensures { result ≡ noted_at self i kind key argument }
-    {
-        let t = self.transactions - 1;
-        let count = self.counts[t];
-        self.counts[t] = count + 1;
-        self.kinds[i] = kind;
-        self.keys[i] = key;
-        self.arguments[i] = argument;
-        self
+        Ok(())
     }
 
     // Notes an operation of the open transaction.
-    fn note(self, kind: u8, key: u8, argument: u16) -> Noted
-        ensures { result ≡ noting self kind key argument }
+    fn note(&mut self, kind: u8, key: u8, argument: u16) -> Result<(), Refusal>
+        ensures { noted_by result self.new ≡ noting self.old kind key argument }
     {
-        let number = tests::note_refusal(self);
-        if number != 0 {
-            return Noted {
-                number,
-                notes: self,
-            };
-        }
-        let counts = self.counts;
-        let i = counts::total(counts, self.transactions);
-        let notes = self.noted_at(i, kind, key, argument);
-        Noted { number: 0, notes }
+        self.test_note()?;
+        let t = self.transactions - 1;
+        let i = self.noted();
+        self.counts[t] += 1;
+        self.kinds[i] = kind;
+        self.keys[i] = key;
+        self.arguments[i] = argument;
+        Ok(())
     }
 
     // Notes a read: the argument is the number of the transaction whose write it saw, or 65535.
-    pub fn note_read(self, key: u8, argument: u16) -> Noted
-        ensures { result ≡ noting self 0 key argument }
+    pub fn note_read(&mut self, key: u8, argument: u16) -> Result<(), Refusal>
+        ensures { noted_by result self.new ≡ noting self.old 0 key argument }
     {
         self.note(0, key, argument)
     }
 
     // Notes a write of a value.
-    pub fn note_write(self, key: u8, value: u16) -> Noted
-        ensures { result ≡ noting self 1 key value }
+    pub fn note_write(&mut self, key: u8, value: u16) -> Result<(), Refusal>
+        ensures { noted_by result self.new ≡ noting self.old 1 key value }
     {
         self.note(1, key, value)
     }
 
     // Closes the open transaction.
-    pub fn close(mut self) -> Noted
-        ensures { result ≡ closing self }
+    pub fn close(&mut self) -> Result<(), Refusal>
+        ensures { noted_by result self.new ≡ closing self.old }
     {
-        let number = tests::close_refusal(self);
-        if number != 0 {
-            return Noted {
-                number,
-                notes: self,
-            };
-        }
+        self.test_close()?;
         self.opened = false;
-        Noted {
-            number: 0,
-            notes: self,
-        }
+        Ok(())
     }
 
-    // Writes the log to the buffer, and gives its length. The notes are left as found, and so is what stands behind the log.
-    pub fn write(self, out: &mut [u8]) -> Written
-        ensures result { result ≡ writing self (length out.old) }
-        ensures list { out.new ≡ buffer_after self out.old }
+    // Writes the log to the buffer, and gives its length. What stands behind the log is left.
+    pub fn write(&self, out: &mut [u8]) -> Result<usize, Refusal>
+        ensures result { written_by result self.now ≡ writing self.now (length out.old) }
+        ensures list { out.new ≡ buffer_after self.now out.old }
     {
-        let number = tests::write_refusal(self, out.len());
-        if number != 0 {
-            return Written {
-                number,
-                length: 0,
-                notes: self,
-            };
-        }
-        let length = rows::put_log(self, out);
-        Written {
-            number: 0,
-            length,
-            notes: self,
-        }
+        self.test_write(out.len())?;
+        Ok(rows::put_log(self, out))
     }
 
-    // Notes a log again, in its own order: fresh notes and Load's number where it refuses the log.
-    pub fn again(log: &[u8]) -> Noted
-        ensures { result ≡ noting_again log.now }
+    // Notes a log again, in its own order, or gives the refusal of Load.
+    pub fn again(log: &[u8]) -> Result<Notes, Refusal>
+        ensures { noted_by result (result_unwrap_or result fresh_notes) ≡ noting_again log.now }
     {
-        let number = logs::number(log);
+        let log = Log::load(log)?;
         let mut notes = Notes::fresh();
-        if number != 0 {
-            return Noted { number, notes };
+        for t in 0..log.transactions() {
+            again::note_transaction(&mut notes, log, t);
         }
-        let n = logs::transactions(log);
-        let mut t: usize = 0;
-        while t < n {
-            notes = again::note_transaction(notes, log, t);
-            t += 1;
-        }
-        Noted { number: 0, notes }
+        Ok(notes)
     }
 }

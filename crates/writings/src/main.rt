@@ -1,18 +1,18 @@
 // The writer of logs through its calls: document 01's example (module `example`); each number at its first and last place, with notes and buffer compared
-// after it, and what stands at the limits (`refusals`); notes put together outside the calls (`outside`); random histories (`random`); and every log of the
+// after it, and what stands at the limits (`numbers`); notes put together outside the calls (`outside`); random histories (`random`); and every log of the
 // repository's folder samples, which standard input has one after another (`again`; samples/pack.py makes it).
 #![tactic(auto)]
 
 mod again;
 mod example;
 mod notes;
+mod numbers;
 mod outside;
 mod random;
-mod refusals;
 
 fn main() {
     example::show();
-    refusals::show();
+    numbers::show();
     outside::show();
     random::show();
     again::show();

@@ -1,6 +1,7 @@
 // Notes put together outside the calls: what each call says of them.
-use crate::notes::{call_line, write_line};
-use crate::refusals::full_notes;
+use crate::notes::{Call, call_line, write_line};
+use crate::numbers::full_notes;
+use samples::lines::{end, text};
 use writer::Notes;
 
 // The full notes with other claims.
@@ -14,17 +15,17 @@ fn made(open: bool, transactions: usize, count: u16) -> Notes {
 
 // What each call says.
 fn calls(n: Notes) {
-    call_line(b"  open", n, n.open(3));
-    call_line(b"  read", n, n.note_read(3, 65535));
-    call_line(b"  write", n, n.note_write(3, 7));
-    call_line(b"  close", n, n.close());
+    call_line(b"  open", n, Call::Open(3));
+    call_line(b"  read", n, Call::Read(3, 65535));
+    call_line(b"  write", n, Call::Write(3, 7));
+    call_line(b"  close", n, Call::Close);
     write_line(b"  writing", n, 1160);
     write_line(b"  writing", n, 3);
 }
 
 fn about(name: &[u8], n: Notes) {
-    samples::lines::text(name);
-    samples::lines::end();
+    text(name);
+    end();
     calls(n);
 }
 

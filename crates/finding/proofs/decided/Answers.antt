@@ -1,35 +1,44 @@
-use Rattle.answers.proofs.Answering.{setting_zero}
+use Rattle.answers.specs.Settings.{setting_refusal}
 use Rattle.finding.proofs.Finding.{setting_finds, places_finds, settled_in, answer_finds, rows_tidy}
 use Rattle.model.specs.Times.{times}
-use Rattle.model.proofs.Times.{timed_log}
-use mathlib.Core.Path.{sym, ◌∙◌}
+use Rattle.std.proofs.lemmas.Result.{err_from_is_err_and}
+use mathlib.Core.Path.{sym, ap₂, ◌∙◌}
 use Rattle.finding.proofs.decided.Goals as goal
 
-pub returns-then-setting-ne0 : goal.returns-then-setting-ne0
-returns-then-setting-ne0 c = setting_finds _ _ _ _ _ _ _ _ _ c.if-setting-ne0.true c.setting_refusal-setting.ensures c.refused.ensures
+pub returns-in_err-setting : goal.returns-in_err-setting
+returns-in_err-setting c =
+    let p = err_from_is_err_and c.from_residual.result c.from_residual.ensures.1 in
+    rw (p.1, p.2) (setting_finds _ _ _ _ _ _ _ _ c.in_err-setting.ensures.number)
 
-pub prepare-known-requires : goal.prepare-known-requires
-prepare-known-requires c = (c.requires.0, setting_zero c.args.encoding c.args.pruning (sym c.setting_refusal-setting.ensures ∙ c.if-setting-ne0.false), c.requires.1)
+pub returns-in_err-test_places : goal.returns-in_err-test_places
+returns-in_err-test_places c =
+    let is = c.in_ok-setting.ensures.setting in
+    let r = c.from_residual-in_err-test_places in
+    let p = err_from_is_err_and r.result r.ensures.1 in
+    let z = ap₂ setting_refusal is.0 is.1 ∙ sym c.in_ok-setting.ensures.number in
+    rw (p.1, p.2, ← is.0, ← is.1) (places_finds _ _ _ _ _ _ _ _ _ z c.prepare-known.ensures.chosen_are.count_is c.in_err-test_places.ensures)
 
-pub returns-then-number-ne0 : goal.returns-then-number-ne0
-returns-then-number-ne0 c = places_finds _ _ _ _ _ _ _ _ _ _ (sym c.setting_refusal-setting.ensures ∙ c.if-setting-ne0.false) c.prepare-known.ensures.chosen_are.count_is c.places_refusal-number.ensures c.if-number-ne0.true c.refused-then-number-ne0.ensures
-
-pub first_settled-f-requires : goal.first_settled-f-requires
-first_settled-f-requires c =
-    let z = sym c.setting_refusal-setting.ensures ∙ c.if-setting-ne0.false in
+pub first_settled-order-requires : goal.first_settled-order-requires
+first_settled-order-requires c =
+    let w = c.args.window in
+    let is = c.in_ok-setting.ensures.setting in
+    let z = ap₂ setting_refusal is.0 is.1 ∙ sym c.in_ok-setting.ensures.number in
     let p = c.prepare-known.ensures in
-    let room = sym c.places_refusal-number.ensures ∙ c.if-number-ne0.false in
+    let room = sym c.in_ok-test_places.ensures in
     let k = c.settle-left.ensures in
-    let kept = k.1 _ c.closure-closed.ensures (rows_tidy c.args.log.now _ c.requires.0 c.args.encoding _ p.rows_are) in
+    let kept = k.1 _ c.closure-closed.ensures (rows_tidy w.log.bytes.now _ w.taken _ _ p.rows_are) in
     let same = c.pruning_needed-used.ensures in
-    (timed_log _ _ c.requires.0, (times c.args.begin.now c.args.end.now c.args.drift, settled_in _ _ _ c.args.places _ _ same _ _ _ _ _ _ _ p z room k.0 kept))
+    (times w.clock.begin.now w.clock.end.now w.clock.drift, settled_in _ _ _ c.args.places _ _ same _ _ _ _ _ _ _ p z room k.0 kept)
 
 pub returns : goal.returns
 returns c =
-    let z = sym c.setting_refusal-setting.ensures ∙ c.if-setting-ne0.false in
+    let w = c.args.window in
+    let is = c.in_ok-setting.ensures.setting in
+    let z = ap₂ setting_refusal is.0 is.1 ∙ sym c.in_ok-setting.ensures.number in
     let p = c.prepare-known.ensures in
-    let room = sym c.places_refusal-number.ensures ∙ c.if-number-ne0.false in
+    let room = sym c.in_ok-test_places.ensures in
     let k = c.settle-left.ensures in
-    let kept = k.1 _ c.closure-closed.ensures (rows_tidy c.args.log.now _ c.requires.0 c.args.encoding _ p.rows_are) in
+    let kept = k.1 _ c.closure-closed.ensures (rows_tidy w.log.bytes.now _ w.taken _ _ p.rows_are) in
     let same = c.pruning_needed-used.ensures in
-    answer_finds _ _ _ c.args.places _ _ same _ _ _ _ _ _ _ p z room k.0 kept _ (c.first_settled-f.ensures (times c.args.begin.now c.args.end.now c.args.drift) (settled_in _ _ _ c.args.places _ _ same _ _ _ _ _ _ _ p z room k.0 kept))
+    rw (← is.0, ← is.1)
+    (answer_finds _ _ _ c.args.places _ _ same _ _ _ _ _ _ _ p z room k.0 kept _ (c.first_settled-order.ensures (times w.clock.begin.now w.clock.end.now w.clock.drift) (settled_in _ _ _ c.args.places _ _ same _ _ _ _ _ _ _ p z room k.0 kept)))

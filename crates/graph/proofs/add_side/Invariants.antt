@@ -1,10 +1,6 @@
-use Rattle.std.proofs.Common.{◌-◌}
 use Rattle.graph.specs.Bodies.{pointed}
 use Rattle.graph.proofs.Sweeps.{Swept}
 use Rattle.graph.proofs.add_side.Given as goal
 
-abbrev pub invariant-loop-i : goal.invariant-loop-i
-invariant-loop-i l = Swept (pointed l.from l.to) l.initial.out l.out l.i
-
-abbrev pub decreases-loop-i : goal.decreases-loop-i
-decreases-loop-i l = 32 - l.i
+abbrev pub invariant-loop-u : goal.invariant-loop-u
+invariant-loop-u l = Swept (pointed l.from l.to) l.initial.row-items l.row-items l.u

@@ -7,4 +7,4 @@ returns c =
     let g = c.args.rows in
     let t = c.top-n in
     let l = c.loop-k in
-    l.invariant.1 ∙ rounds_below g t.result (search rules) (λ u. (let f : Fits w32 (get_or g u 0) = search rules in f.fits)) t.ensures.1 l.k (omega (arith, l.invariant.0)) t.ensures.0
+    l.invariant ∙ rounds_below g t.result (search rules) (λ u. (let f : Fits w32 (get_or g u 0) = search rules in f.fits)) t.ensures.1 l.k (omega arith) t.ensures.0

@@ -8,4 +8,4 @@ returns-then-has c = λ g e. cyclic_yes c.args.closed g c.loop-u.u (omega arith)
 pub returns : goal.returns
 returns c =
     let l = c.loop-u in
-    λ g e. cyclic_no c.args.closed g (λ u h. l.invariant.1 u (omega arith)) e
+    λ g e. cyclic_no c.args.closed g (λ u h. l.invariant u (omega arith)) e

@@ -1,53 +1,82 @@
-use mathlib.Core.Path.{◌≡◌, sym, ap, ◌∙◌}
+use mathlib.Core.Path.{◌≡◌, sym, ◌∙◌}
 use lib.ListN.{length}
-use Rattle.model.specs.Times.{times, timed_number}
-use Rattle.model.specs.Window.{window, window_number}
-use Rattle.model.proofs.Times.{timed_log}
-use Rattle.model.proofs.Windows.{number_of_log}
-use Rattle.codes.specs.Codes.{decide_places, said_code, said_order, said_table, window_code, window_order, window_table}
-use Rattle.codes.proofs.Taking.{where_refused, refused_number, where_taken}
-use Rattle.codes.proofs.Deciding.{takes, as_decided, found_order}
 use borrow.Author.Rules.{rules}
+use Rattle.std.proofs.lemmas.Result.{err_from_is_err_and}
+use Rattle.refusals.proofs.Numbering.{code_some}
+use Rattle.model.specs.Times.{times}
+use Rattle.model.specs.Window.{window}
+use Rattle.model.proofs.Windows.{number_of_log}
+use Rattle.codes.proofs.Deciding.{not_taken}
+use Rattle.host.proofs.Windows.{orders, found_refused, found_none, found_some}
 use Rattle.host.proofs.decide.Goals as goal
 
-pub returns-then-refused-ne0 : goal.returns-then-refused-ne0
-unfolding window_code window_order window_table
-returns-then-refused-ne0 c =
+pub returns-in_err-held : goal.returns-in_err-held
+returns-in_err-held c =
     let a = c.args in
-    let ts = times a.begin.now a.end.now a.drift in
-    let w = window a.log.now a.starting ts in
+    let w = window a.log.now a.starting (times a.clock.begin.now a.clock.end.now a.clock.drift) in
     let long : length a.starting ≡ 32 = search rules in
-    let same : timed_number a.log.now ts ≡ window_number w = sym (number_of_log w long) in
-    let is = c.timed_number-refused.ensures in
+    let p = err_from_is_err_and c.from_residual.result c.from_residual.ensures.1 in
+    let all = not_taken w a.encoding a.pruning a.order.now a.table.now _ (c.in_err-held.ensures.number ∙ sym (number_of_log w long)) (λ z. code_some _ z) in
     record {
-      result = refused_number w _ _ is same _ c.if-refused-ne0.true;
-      order = where_refused w _ _ is same _ a.order.now c.if-refused-ne0.true;
-      table = where_refused w _ _ is same _ a.table.now c.if-refused-ne0.true;
+      result = rw (p.1, p.2) all.0;
+      order = all.1.0;
+      table = all.1.1;
     }
 
-pub answered-requires : goal.answered-requires
-answered-requires c =
+pub returns-in_err-found : goal.returns-in_err-found
+returns-in_err-found c =
     let a = c.args in
-    let ts = times a.begin.now a.end.now a.drift in
     let long : length a.starting ≡ 32 = search rules in
-    let loads = sym c.timed_number-refused.ensures ∙ c.if-refused-ne0.false in
-    (timed_log a.log.now ts loads, found_order (window a.log.now a.starting ts) (takes a.log.now a.starting ts long loads) a.encoding a.pruning decide_places _ _ _ _ c.decided-o.ensures)
-
-pub returns : goal.returns
-unfolding window_code window_order window_table
-returns c =
-    let a = c.args in
-    let ts = times a.begin.now a.end.now a.drift in
-    let is = c.timed_number-refused.ensures in
-    let z = c.if-refused-ne0.false in
-    let w = c.answered.ensures in
-    let wd = window a.log.now a.starting ts in
-    let long : length a.starting ≡ 32 = search (rules, c) in
-    let same : timed_number a.log.now ts ≡ window_number wd = sym (number_of_log wd long) in
-    let k = sym is ∙ z in
-    let d = as_decided wd (takes a.log.now a.starting ts long k) a.encoding a.pruning decide_places _ _ _ _ c.decided-o.ensures in
+    let r = c.from_residual-in_err-found in
+    let p = err_from_is_err_and r.result r.ensures.1 in
+    let all = found_refused c.in_ok-held.held a.starting long a.encoding a.pruning a.order.now a.table.now _ _ _ a.log.now a.clock c.in_ok-held.ensures.log _ c.in_err-found.ensures in
     record {
-      result = where_taken wd _ _ is same _ _ _ z (w.result ts k _ ∙ ap (λ x. said_code x (length a.order.now) (length a.table.now)) d);
-      order = where_taken wd _ _ is same _ _ _ z (w.order ts k _ ∙ ap (λ x. said_order x a.order.now (length a.table.now)) d);
-      table = where_taken wd _ _ is same _ _ _ z (w.table ts k _ ∙ ap (λ x. said_table x (length a.order.now) a.table.now) d);
+      result = rw (p.1, p.2) all.0;
+      order = all.1.0;
+      table = all.1.1;
+    }
+
+pub returns-in-None : goal.returns-in-None
+returns-in-None c =
+    let a = c.args in
+    let long : length a.starting ≡ 32 = search rules in
+    let all = found_none c.in_ok-held.held a.starting long a.encoding a.pruning a.order.now a.table.now _ _ _ a.log.now a.clock c.in_ok-held.ensures.log _ c.in_ok-found.ensures c.in-None.is in
+    record {
+      result = all.0;
+      order = all.1.0;
+      table = all.1.1;
+    }
+
+pub write-requires : goal.write-requires
+write-requires c =
+    let a = c.args in
+    let long : length a.starting ≡ 32 = search rules in
+    orders c.in_ok-held.held a.starting long a.encoding a.pruning a.order.now a.table.now _ _ _ _ c.in_ok-found.ensures _ c.in-Some.is
+
+pub returns-in_err-write-in-Some : goal.returns-in_err-write-in-Some
+returns-in_err-write-in-Some c =
+    let a = c.args in
+    let long : length a.starting ≡ 32 = search rules in
+    let r = c.from_residual-in_err-write-in-Some in
+    let p = err_from_is_err_and r.result r.ensures.1 in
+    let wrote = c.in_err-write-in-Some.ensures in
+    let all = found_some c.in_ok-held.held a.starting long a.encoding a.pruning a.order.now a.table.now _ _ _ a.log.now a.clock c.in_ok-held.ensures.log _ c.in_ok-found.ensures
+    _ c.in-Some.is _ _ _ (wrote.result, (wrote.order, wrote.table)) in
+    record {
+      result = rw (p.1, p.2) all.0;
+      order = all.1.0;
+      table = all.1.1;
+    }
+
+pub returns-in_ok-write-in-Some : goal.returns-in_ok-write-in-Some
+returns-in_ok-write-in-Some c =
+    let a = c.args in
+    let long : length a.starting ≡ 32 = search rules in
+    let wrote = c.in_ok-write-in-Some.ensures in
+    let all = found_some c.in_ok-held.held a.starting long a.encoding a.pruning a.order.now a.table.now _ _ _ a.log.now a.clock c.in_ok-held.ensures.log _ c.in_ok-found.ensures
+    _ c.in-Some.is _ _ _ (wrote.result, (wrote.order, wrote.table)) in
+    record {
+      result = all.0;
+      order = all.1.0;
+      table = all.1.1;
     }

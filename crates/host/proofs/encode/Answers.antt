@@ -1,65 +1,48 @@
-use mathlib.Core.Path.{◌≡◌, refl, sym, ◌∙◌}
-use mathlib.Core.Logic.{⊎_elim}
+use mathlib.Core.Path.{refl, sym, ap₂, ◌∙◌}
+use Prim.Native.Nat.{ℕ}
 use lib.ListN.{length}
-use Rattle.model.specs.Times.{times, timed_number}
-use Rattle.model.specs.Window.{window, window_number, zeros}
+use Rattle.std.proofs.lemmas.Result.{err_from_is_err_and}
+use Rattle.refusals.proofs.Numbering.{code_some}
+use Rattle.model.specs.Times.{times}
+use Rattle.model.specs.Window.{window, window_history, zeros}
 use Rattle.model.proofs.Windows.{number_of_log}
-use Rattle.answers.specs.Settings.{setting_refusal}
-use Rattle.answers.proofs.Answering.{setting_either, setting_zero}
-use Rattle.codes.specs.Codes.{sent_code, encode_window, encode_window_after}
-use Rattle.codes.proofs.Room.{encoded_code, encoded_refused, encoded_kept, encoded_list_lem}
-use Rattle.codes.proofs.Taking.{where_refused, refused_number, loads_it, where_taken}
+use Rattle.codes.specs.Codes.{sent_code, sent_after}
+use Rattle.host.proofs.Windows.{window_of, encode_refused, encode_unset, encode_sent}
 use Rattle.host.proofs.encode.Goals as goal
 
-pub returns-then-refused-ne0 : goal.returns-then-refused-ne0
-unfolding encode_window encode_window_after
-returns-then-refused-ne0 c =
+pub returns-in_err-held : goal.returns-in_err-held
+returns-in_err-held c =
     let a = c.args in
-    let ts = times a.begin.now a.end.now a.drift in
-    let w = window a.log.now zeros ts in
-    let same : timed_number a.log.now ts ≡ window_number w = sym (number_of_log w refl) in
-    let is = c.timed_number-refused.ensures in
+    let w = window a.log.now zeros (times a.clock.begin.now a.clock.end.now a.clock.drift) in
+    let p = err_from_is_err_and c.from_residual.result c.from_residual.ensures.1 in
+    let all = encode_refused w a.encoding a.pruning a.out.now _ (c.in_err-held.ensures.number ∙ sym (number_of_log w refl)) (λ z. code_some _ z) in
     record {
-      result = refused_number w _ _ is same _ c.if-refused-ne0.true;
-      list = where_refused w _ _ is same _ a.out.now c.if-refused-ne0.true;
+      result = rw (p.1, p.2) all.0;
+      list = all.1;
     }
 
-pub returns-then-setting-ne0 : goal.returns-then-setting-ne0
-unfolding encode_window encode_window_after
-returns-then-setting-ne0 c =
+pub returns-in_err-setting : goal.returns-in_err-setting
+returns-in_err-setting c =
     let a = c.args in
-    let ts = times a.begin.now a.end.now a.drift in
-    let w = window a.log.now zeros ts in
-    let same : timed_number a.log.now ts ≡ window_number w = sym (number_of_log w refl) in
-    let is = c.timed_number-refused.ensures in
-    let z = c.if-refused-ne0.false in
-    let taken = loads_it w _ _ is same z in
-    let setting = c.setting_refusal-setting.ensures in
-    let twelve : setting_refusal a.encoding a.pruning ≡ 12 = ⊎_elim (λ (q : setting_refusal a.encoding a.pruning ≡ 0). absurd (c.if-setting-ne0.true (setting ∙ q))) (λ q. q) (setting_either a.encoding a.pruning) in
+    let r = c.from_residual-in_err-setting in
+    let p = err_from_is_err_and r.result r.ensures.1 in
+    let all = encode_unset c.in_ok-held.held a.log.now a.clock c.in_ok-held.ensures.log a.encoding a.pruning a.out.now _ c.in_err-setting.ensures.number in
     record {
-      result = where_taken w _ _ is same _ _ _ z (setting ∙ twelve ∙ sym (encoded_refused w taken a.encoding a.pruning twelve (length a.out.now)));
-      list = where_taken w _ _ is same _ _ _ z (sym (encoded_kept w taken a.encoding a.pruning twelve a.out.now));
+      result = rw (p.1, p.2) all.0;
+      list = all.1;
     }
-
-pub prepare-known-requires : goal.prepare-known-requires
-prepare-known-requires c =
-    let a = c.args in
-    (sym c.timed_number-refused.ensures ∙ c.if-refused-ne0.false, setting_zero a.encoding a.pruning (sym c.setting_refusal-setting.ensures ∙ c.if-setting-ne0.false), record { words = refl; places = refl })
 
 pub returns : goal.returns
-unfolding encode_window encode_window_after sent_code
 returns c =
     let a = c.args in
-    let ts = times a.begin.now a.end.now a.drift in
-    let w = window a.log.now zeros ts in
-    let same : timed_number a.log.now ts ≡ window_number w = sym (number_of_log w refl) in
-    let is = c.timed_number-refused.ensures in
-    let z = c.if-refused-ne0.false in
-    let taken = loads_it w _ _ is same z in
-    let zero : setting_refusal a.encoding a.pruning ≡ 0 = sym c.setting_refusal-setting.ensures ∙ c.if-setting-ne0.false in
-    let plan = c.prepare-known.ensures in
-    let gave = c.sent.ensures in
+    let is = c.in_ok-setting.ensures.setting in
+    let h = window_history (window_of c.in_ok-held.held zeros) in
+    let gave = c.send.ensures in
+    let plan = c.prepare-plan.ensures in
+    let all = encode_sent c.in_ok-held.held a.log.now a.clock c.in_ok-held.ensures.log a.encoding a.pruning a.out.now (sym c.in_ok-setting.ensures.number) _ _
+    (gave.result _ _ plan ∙ ap₂ (λ (e p : ℕ). sent_code h e p (length a.out.now)) is.0 is.1)
+    (gave.list _ _ plan ∙ ap₂ (λ (e p : ℕ). sent_after h e p a.out.now) is.0 is.1) in
     record {
-      result = where_taken w _ _ is same _ _ _ z (gave.result _ _ plan ∙ sym (encoded_code w taken a.encoding a.pruning zero (length a.out.now)));
-      list = where_taken w _ _ is same _ _ _ z (gave.list _ _ plan ∙ sym (encoded_list_lem w taken a.encoding a.pruning zero a.out.now));
+      result = all.0;
+      list = all.1;
     }

@@ -1,13 +1,12 @@
 use Rattle.codes.proofs.Filling.{filled_none, filled_next}
 use Rattle.codes.specs.Images.{value_in}
 use mathlib.Core.Path.{ap, ◌∙◌}
-use native.Mathlib.Omega.{arith}
 use Rattle.images.proofs.put_values.Goals as goal
 
 pub loop-i-init : goal.loop-i-init
-loop-i-init c = (omega arith, filled_none _ _)
+loop-i-init c = filled_none _ _
 
 pub loop-i-preserved : goal.loop-i-preserved
 loop-i-preserved c =
     let l = c.loop-i in
-    (omega arith, c.put_pair.ensures ∙ ap (value_in c.args.values.now l.i) l.invariant.1 ∙ filled_next (value_in c.args.values.now) l.i c.args.out.now)
+    c.put_pair.ensures ∙ ap (value_in c.args.values.now l.i) l.invariant ∙ filled_next (value_in c.args.values.now) l.i c.args.out.now

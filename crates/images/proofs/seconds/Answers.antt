@@ -14,4 +14,4 @@ returns c =
     let l = c.loop-i in
     let b = c.args.bytes.now in
     let end : l.i ≡ length b / 4 = omega arith in
-    ap (λ k. take k l.out) (sym end) ∙ filled_first 32 (λ j. word_at b (4 * j)) l.i l.out (omega arith) l.invariant.1 ∙ ap (λ k. map (λ j. word_at b (4 * j)) (up_to k)) end
+    ap (λ k. take k l.out) (sym end) ∙ filled_first 32 (λ j. word_at b (4 * j)) l.i l.out (omega arith) l.invariant ∙ ap (λ k. map (λ j. word_at b (4 * j)) (up_to k)) end

@@ -5,7 +5,7 @@ use Rattle.judging.proofs.ordered.Goals as goal
 pub returns : goal.returns
 returns c =
     wrote_as
-    (text_is c.args.log.now c.args.c c.requires.0 _ _ _ _
+    (text_is c.args.log.bytes.now c.args.c c.requires.0 _ _ _ _
     c.transactions-n.ensures.0
     c.order-o.ensures.list
     c.writers-writers.ensures

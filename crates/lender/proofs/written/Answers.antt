@@ -1,6 +1,7 @@
 -- The constraints left fit the list and the words, and go out.
 use Rattle.std.proofs.Common.{ℕ, ◌≤◌, List, sym, ap, subst, ◌∙◌, arith}
 use Rattle.model.specs.declared.Constraint.{Constraint}
+use Rattle.setting.specs.Encodings.{pruning_number}
 use Rattle.lender.specs.Packing.{packed}
 use Rattle.lender.proofs.Places.{places_long}
 use Rattle.lender.proofs.Within.{planned_within}
@@ -11,7 +12,7 @@ pack-requires c =
     let a = c.args in
     let p = c.requires.0 in
     let r = c.write-r in
-    let low : r.result.left ≤ 4096 = subst (λ (k : ℕ). k ≤ 4096) (sym (r.ensures p.h p.e p.plan).left_is) (planned_within p.h p.e a.pruning a.tables.now a.chosen.now a.rows a.n p.plan) in
+    let low : r.result.left ≤ 4096 = subst (λ (k : ℕ). k ≤ 4096) (sym (r.ensures p.h p.e p.plan).left_is) (planned_within p.h p.e (pruning_number a.pruned) a.tables.now a.chosen.now a.rows a.n p.plan) in
     (omega (arith, low, r.auto.list, places_long), omega (arith, low))
 
 pub returns : goal.returns
@@ -22,5 +23,5 @@ returns c =
     record {
       rows_are = k.rows_are;
       left_is = k.left_is;
-      words_are = c.pack.ensures.1 ∙ ap (λ (l : List Constraint). packed r.result.left l c.args.out.now) k.list_is;
+      words_are = c.pack.ensures.1 ∙ ap (λ (j : ℕ). packed j r.new.list c.args.out.now) c.from.ensures ∙ ap (λ (l : List Constraint). packed r.result.left l c.args.out.now) k.list_is;
     })

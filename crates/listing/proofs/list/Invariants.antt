@@ -1,10 +1,9 @@
--- What is known once i constraints are written.
-use Rattle.std.proofs.Common.{◌-◌, ◌≤◌}
-use Rattle.listing.proofs.Lists.{Upto}
+-- The first i places have the first i constraints.
+use mathlib.Core.Path.{◌≡◌}
+use mathlib.Core.List.{◌++◌}
+use lib.ListN.{drop}
+use Rattle.listing.specs.Candidates.{items_by}
 use Rattle.listing.proofs.list.Given as goal
 
 abbrev pub invariant-loop-i : goal.invariant-loop-i
-invariant-loop-i l = (l.i ≤ l.n) × Upto l.tables l.chosen l.initial.out l.i l.out
-
-abbrev pub decreases-loop-i : goal.decreases-loop-i
-decreases-loop-i l = l.n - l.i
+invariant-loop-i l = l.place-items ≡ items_by l.tables l.chosen l.i ++ drop l.i l.initial.place-items

@@ -1,7 +1,5 @@
 -- The first places of the list are lent to Bills; those behind them are as they were.
-use Rattle.std.proofs.Common.{ap}
 use Rattle.std.proofs.lemmas.List.{take-replicate, drop-replicate}
-use Rattle.lists.specs.declared.Billed.{Billed}
 use Rattle.lists.proofs.Parts.{billed_first}
 use Rattle.lists.proofs.bills.Goals as goal
 
@@ -9,5 +7,4 @@ pub returns : goal.returns
 returns c =
     let a = c.args in
     let b = c.bills-answer in
-    billed_first a.c a.places 20 a.mark _ b.new.list _ c.shown.result.list b.result c.shown.result.answer c.requires (take-replicate a.places 20 a.mark c.requires) (drop-replicate a.places 20 a.mark)
-    b.ensures.result b.ensures.list (ap (λ (x : Billed). x.answer) c.shown.ensures) (ap (λ (x : Billed). x.list) c.shown.ensures)
+    billed_first a.c a.places 20 a.mark _ b.new.list _ b.result (take-replicate a.places 20 a.mark c.requires) (drop-replicate a.places 20 a.mark) b.ensures.result b.ensures.list

@@ -13,7 +13,6 @@ pub returns : goal.returns
 unfolding put_at owner_in key_in
 returns c =
     let a = c.args in
-    let edge = c.put_if-edge in
-    let own = c.own_edges-own in
+    let own = c.own_edges in
     let small : own.result < 2 ^ 32 = search rules in
-    step_is a.chained a.writers.now a.marks.now a.out.now a.read a.at edge.result own.result c.requires edge.ensures small own.ensures
+    step_is a.chained a.writers.now a.marks.now a.out.now a.read a.at c.put_if.result own.result c.requires c.put_if.ensures small own.ensures

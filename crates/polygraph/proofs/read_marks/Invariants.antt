@@ -1,5 +1,3 @@
-use lib.ListN.{length}
-use Prim.Native.Nat.{◌≤◌, ◌-◌}
 use mathlib.Core.Path.{◌≡◌}
 use lib.ListN.{take, get_or}
 use Rattle.model.specs.Lists.{fold}
@@ -8,7 +6,4 @@ use Rattle.polygraph.specs.Tables.{mark_step, slot_in}
 use Rattle.polygraph.proofs.read_marks.Given as goal
 
 abbrev pub invariant-loop-i : goal.invariant-loop-i
-invariant-loop-i l = (l.i ≤ l.count) × Filled 256 (λ j. slot_in l.writers (get_or l.reads j 0)) l.i l.slots × (length l.reads ≡ 256 → l.out ≡ fold (mark_step l.writers) l.initial.out (take l.i l.reads))
-
-abbrev pub decreases-loop-i : goal.decreases-loop-i
-decreases-loop-i l = l.count - l.i
+invariant-loop-i l = Filled 256 (λ j. slot_in l.writers (get_or l.reads j 0)) l.i l.slots × (l.out ≡ fold (mark_step l.writers) l.initial.out (take l.i l.reads))

@@ -1,17 +1,11 @@
-use Prim.Native.Nat.{ℕ, ◌<◌}
-use mathlib.Core.Path.{sym, subst}
-use Rattle.pruning.proofs.Steps.{resolution_is, picked_none, picked_low}
-use native.Mathlib.Omega.{arith}
+use Rattle.pruning.proofs.Steps.{judged_none, judged_a, judged_b}
 use Rattle.pruning.proofs.judge.Goals as goal
 
-pub returns-then-not-drops : goal.returns-then-not-drops
-returns-then-not-drops c =
-    let none = c.if-not-drops.true in
-    (omega arith, λ g e. resolution_is g c.args.c _ _ _ _ (c.closed_off-a.ensures g e) (c.closed_off-b.ensures g e) (picked_none _ _ _ _ none) (picked_none _ _ _ _ none))
+pub returns-then-not-a-b-clause-is : goal.returns-then-not-a-b-clause-is
+returns-then-not-a-b-clause-is c = λ g e. judged_none g c.args.c _ _ (c.closed_off-a.ensures g e) (c.closed_off-b.ensures g e) c.if-not-a-b.true
 
-pub returns : goal.returns
-returns c =
-    let a = c.closed_off-a.ensures in (
-      subst (λ (x : ℕ). x < 32) (sym c.pick-2.ensures) (picked_low _ _ c.args.c c.requires),
-      λ g e. resolution_is g c.args.c _ _ _ _ (a g e) (c.closed_off-b.ensures g e) c.pick.ensures c.pick-2.ensures,
-    )
+pub returns-then-a-clause-is : goal.returns-then-a-clause-is
+returns-then-a-clause-is c = λ g e. judged_b g c.args.c _ _ (c.closed_off-a.ensures g e) (c.closed_off-b.ensures g e) c.if-a.true
+
+pub returns-clause-is : goal.returns-clause-is
+returns-clause-is c = λ g e. judged_a g c.args.c _ _ (c.closed_off-a.ensures g e) (c.closed_off-b.ensures g e) c.if-not-a-b.false c.if-a.false

@@ -5,7 +5,7 @@ use mathlib.Core.Path.{sym}
 use Rattle.report.proofs.put_table.Goals as goal
 
 pub loop-k-init : goal.loop-k-init
-loop-k-init c = (omega arith, wrote_as (sym (table_none _ _)) (wrote_none _ _ (omega arith)))
+loop-k-init c = wrote_as (sym (table_none _ _)) (wrote_none _ _ (omega arith))
 
 pub put_if_written-end-requires : goal.put_if_written-end-requires
 put_if_written-end-requires c = omega (arith, table_length (marked c.args.writers) c.args.table c.loop-k.k)
@@ -14,4 +14,4 @@ pub loop-k-preserved : goal.loop-k-preserved
 unfolding marked
 loop-k-preserved c =
     let l = c.loop-k in
-    (omega arith, wrote_next l.invariant.1 c.put_if_written-end.ensures (table_next (marked c.args.writers) c.args.table l.k))
+    wrote_next l.invariant c.put_if_written-end.ensures (table_next (marked c.args.writers) c.args.table l.k)

@@ -5,10 +5,10 @@ use mathlib.Core.Path.{ap}
 use Rattle.report.proofs.refused_text.Goals as goal
 
 pub push-requires : goal.push-requires
-push-requires c = omega (arith, number_length (letters "refused ") c.wide.result)
+push-requires c = omega (arith, number_length (letters "refused ") c.from.result)
 
 pub returns : goal.returns
 unfolding refused_text
 returns c =
-    let text = wrote_as (ap (number_text (letters "refused ")) c.wide.ensures) c.put_number-end.ensures in
+    let text = wrote_as (ap (number_text (letters "refused ")) c.from.ensures) c.put_number-end.ensures in
     wrote_two text c.push.ensures

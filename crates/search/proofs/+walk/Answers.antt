@@ -1,5 +1,5 @@
 -- What `walk` returns at a leaf and after a choice, and that the measure falls at each choice. Assumes nothing.
-use Rattle.std.proofs.Common.{ℕ, ◌<◌, subst}
+use Rattle.std.proofs.Common.{ℕ, ◌<◌, sym, ◌∙◌, subst}
 use Rattle.search.specs.Steps.{open_pairs}
 use Rattle.search.proofs.Walks.{walk_leaf, nodes, off-A, off-B, falls-A, falls-B, ready-A, ready-B, chosen-A, chosen-B}
 use Rattle.search.proofs.+walk.Goals as goal
@@ -27,9 +27,9 @@ walk-a-requires t c =
       ready-A _ _ _ _ _ _ _ p q g _ h y _ c.constraint_at-k.ensures _ c.drop_at.ensures _ c.extend-with_a.ensures c.requires.fit,
     )
 
-pub returns-then-found : goal.returns-then-found
-returns-then-found t c =
-    chosen-A _ _ _ _ _ _ _ c.prune-stuck.ensures c.if-stuck.false c.requires.given _ c.if-i-n.false c.next_choice-i.ensures _ c.constraint_at-k.ensures _ c.drop_at.ensures _ c.extend-with_a.ensures _ _ c.walk-a.ensures c.if-found.true
+pub returns-then-is_some : goal.returns-then-is_some
+returns-then-is_some t c =
+    chosen-A _ _ _ _ _ _ _ c.prune-stuck.ensures c.if-stuck.false c.requires.given _ c.if-i-n.false c.next_choice-i.ensures _ c.constraint_at-k.ensures _ c.drop_at.ensures _ c.extend-with_a.ensures _ c.walk-a.ensures (sym c.is_some.ensures ∙ c.if-is_some.true)
 
 pub extend-with_b-requires : goal.extend-with_b-requires
 extend-with_b-requires t c =
@@ -53,4 +53,4 @@ walk-requires t c =
 
 pub returns : goal.returns
 returns t c =
-    chosen-B _ _ _ _ _ _ _ c.prune-stuck.ensures c.if-stuck.false c.requires.given _ c.if-i-n.false c.next_choice-i.ensures _ c.constraint_at-k.ensures _ c.drop_at.ensures _ c.extend-with_a.ensures _ c.extend-with_b.ensures _ _ c.walk-a.ensures c.if-found.false _ _ c.walk.ensures
+    chosen-B _ _ _ _ _ _ _ c.prune-stuck.ensures c.if-stuck.false c.requires.given _ c.if-i-n.false c.next_choice-i.ensures _ c.constraint_at-k.ensures _ c.drop_at.ensures _ c.extend-with_a.ensures _ c.extend-with_b.ensures _ c.walk-a.ensures (sym c.is_some.ensures ∙ c.if-is_some.false) _ c.walk.ensures

@@ -5,4 +5,4 @@ use Rattle.answers.proofs.clocks.clock_of.Goals as goal
 pub returns : goal.returns
 returns c =
     let a = c.args in
-    clock_is (times a.begin.now a.end.now a.drift) _ _ c.in_clock-begins.ensures c.in_clock-ends.ensures
+    clock_is (times a.clock.begin.now a.clock.end.now a.clock.drift) _ _ c.in_clock.ensures c.in_clock-2.ensures

@@ -1,13 +1,9 @@
 use Rattle.answers.proofs.Answering.{judged_none, judged_some}
 use Rattle.model.specs.History.{is_order}
-use Rattle.model.proofs.Times.{timed_log}
 use Prim.Native.Nat.{ℕ}
 use mathlib.Core.Bool.{true, false}
 use mathlib.Core.Path.{sym, ap, ◌∙◌}
 use Rattle.answers.proofs.judging.judged.Goals as goal
-
-pub transactions-n-requires : goal.transactions-n-requires
-transactions-n-requires c = timed_log _ _ c.requires
 
 pub returns-then-not-is_order : goal.returns-then-not-is_order
 returns-then-not-is_order c =

@@ -1,12 +1,16 @@
 use Rattle.model.specs.Lent.{written_table}
-use Rattle.answers.proofs.Copying.{copied_whole}
-use lib.ListN.{length}
-use mathlib.Core.Path.{◌≡◌}
+use lib.ListN.{length, drop}
+use lib.Seq.{length-take-le}
+use mathlib.Core.List.{◌++◌}
+use mathlib.Core.Path.{◌≡◌, sym, ap, ◌∙◌}
 use borrow.Author.Rules.{rules}
 use Rattle.answers.proofs.results.write_table.Goals as goal
 
+pub copy_from_slice-requires : goal.copy_from_slice-requires
+copy_from_slice-requires c =
+    let long : length c.table-values.result ≡ 32 = search rules in
+    length-take-le 32 c.args.out.now c.requires.1 ∙ sym long
+
 pub returns : goal.returns
 unfolding written_table
-returns c =
-    let long : length c.table-values.result ≡ 32 = search rules in
-    copied_whole 32 _ _ c.args.out.now _ long c.table-values.ensures c.copy_values.ensures
+returns c = ap (λ t. t ++ drop 32 c.args.out.now) (c.copy_from_slice.ensures.after ∙ c.table-values.ensures)

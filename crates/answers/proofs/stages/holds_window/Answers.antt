@@ -1,3 +1,5 @@
+use mathlib.Core.Path.{◌∙◌}
+use Rattle.answers.proofs.Answering.{ok_number}
 use Rattle.answers.proofs.Holding.{window_none, window_far, window_some, over, under}
 use Rattle.answers.proofs.stages.holds_window.Goals as goal
 
@@ -9,4 +11,5 @@ returns-then-count-gt32 c = window_far _ _ c.args.clock (under _ _ c.if-length-b
 
 pub returns : goal.returns
 returns c =
-    window_some _ _ c.args.clock _ (under _ _ c.if-length-bytes.false) (under _ _ c.if-count-gt32.false) c.timed_number-number.ensures
+    c.is_ok.ensures.value ∙ ok_number c.load_timed.result
+    ∙ window_some _ _ c.args.clock _ (under _ _ c.if-length-bytes.false) (under _ _ c.if-count-gt32.false) c.load_timed.ensures.number

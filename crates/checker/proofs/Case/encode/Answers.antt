@@ -1,20 +1,27 @@
 -- A refusal writes nothing; else the polygraph of the plan is written to the two lists.
-use Rattle.std.proofs.Common.{◌≡◌, length, rules}
+use Rattle.std.proofs.Common.{◌≡◌, ◌∙◌, sym, ap, subst, ◌++◌, length, drop, rules}
+use lib.Seq.{length-take-le}
 use Rattle.checker.specs.Cases.{history_in}
+use Rattle.encoding.specs.Writing.{Encoded}
+use Rattle.setting.proofs.Numbers.{pruned_is}
 use Rattle.checker.proofs.Encodes.{encodes_refused, encodes_done}
 use Rattle.checker.proofs.Case.encode.Goals as goal
 
-pub returns-then-p-ne0 : goal.returns-then-p-ne0
-returns-then-p-ne0 c =
-    let a = c.args in
-    encodes_refused a.self a.encoding a.pruning a.list.now a.rows.now _ c.planned-p.result.number c.planned-p.ensures.number_is c.if-p-ne0.true c.answer.ensures
+pub returns-in-Err : goal.returns-in-Err
+returns-in-Err c =
+    let a = c.args in encodes_refused a.self a.encoding a.pruning a.list.now a.rows.now c.in-Err.refusal c.in-Err.ensures.number_is
 
-pub returns : goal.returns
-returns c =
+pub slice_bounds-copy_from_slice-end-in-Ok : goal.slice_bounds-copy_from_slice-end-in-Ok
+slice_bounds-copy_from_slice-end-in-Ok c = sym (length-take-le 32 c.args.rows.now c.in-Ok.ensures.ready.room)
+
+pub copy_from_slice-requires : goal.copy_from_slice-requires
+copy_from_slice-requires c =
+    let long : length c.write-r.result.rows ≡ 32 = search rules in
+    length-take-le 32 c.args.rows.now c.in-Ok.ensures.ready.room ∙ sym long
+
+pub returns-in-Ok : goal.returns-in-Ok
+returns-in-Ok c =
     let a = c.args in
-    let plans = c.planned-p.ensures in
-    let none = c.if-p-ne0.false in
     let r = c.write-r.result in
-    let long : length r.rows ≡ 32 = search rules in
-    encodes_done a.self a.encoding a.pruning a.list.now a.rows.now _ c.planned-p.result.number plans.number_is none r _ _ long
-    (c.write-r.ensures (history_in a.self) a.encoding (plans.plan none)) c.copy_rows.ensures c.answer-2.ensures
+    encodes_done a.self a.encoding a.pruning a.list.now a.rows.now c.in-Ok.ensures.number_is r _ _ _ c.from.ensures
+    (subst (λ p. Encoded (history_in a.self) a.encoding p a.list.now r c.write-r.new.list) (pruned_is a.pruning c.in-Ok.ensures.ready.low) (c.write-r.ensures (history_in a.self) a.encoding c.in-Ok.ensures.ready.plan)) (ap (λ l. l ++ drop 32 a.rows.now) c.copy_from_slice.ensures.after)

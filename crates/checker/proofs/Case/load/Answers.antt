@@ -1,21 +1,20 @@
 use Rattle.checker.proofs.Loads.{refusal_none, load_refused, load_taken}
-use mathlib.Core.Path.{sym, ◌∙◌}
+use mathlib.Core.Path.{sym}
 use Rattle.checker.proofs.Case.load.Goals as goal
 
-pub returns-then-number-ne0 : goal.returns-then-number-ne0
-returns-then-number-ne0 c =
+pub returns-in-Err : goal.returns-in-Err
+returns-in-Err c =
     record {
-      result = load_refused _ _ _ c.load_refusal-number.ensures c.if-number-ne0.true;
-      number = c.load_refusal-number.ensures;
+      result = load_refused c.args.self _ c.in-Err.refusal c.in-Err.ensures;
+      number = c.in-Err.ensures;
     }
 
 pub loaded-loaded-requires : goal.loaded-loaded-requires
-loaded-loaded-requires c = refusal_none c.args.self _ (sym c.load_refusal-number.ensures ∙ c.if-number-ne0.false)
+loaded-loaded-requires c = refusal_none c.args.self _ (sym c.in-Ok.ensures)
 
-pub returns : goal.returns
-returns c =
-    let none = sym c.load_refusal-number.ensures ∙ c.if-number-ne0.false in
+pub returns-in-Ok : goal.returns-in-Ok
+returns-in-Ok c =
     record {
-      result = load_taken c.args.self _ _ none c.loaded-loaded.ensures;
-      number = sym none;
+      result = load_taken c.args.self _ _ (sym c.in-Ok.ensures) c.loaded-loaded.ensures;
+      number = c.in-Ok.ensures;
     }

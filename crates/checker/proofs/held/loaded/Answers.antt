@@ -5,16 +5,16 @@ use Rattle.model.specs.Times.{times}
 use Rattle.model.specs.Window.{window}
 use Rattle.checker.proofs.held.loaded.Goals as goal
 
-pub in_room-bytes-requires : goal.in_room-bytes-requires
-in_room-bytes-requires c = log_room _ (taken_log (window c.args.log.now c.args.starting.now (times c.args.begin.now c.args.end.now c.args.drift)) c.requires)
+pub in_room-requires : goal.in_room-requires
+in_room-requires c = log_room _ (taken_log (window c.args.log.now c.args.starting.now (times c.args.clock.begin.now c.args.clock.end.now c.args.clock.drift)) c.requires)
 
-pub values_of-values-requires : goal.values_of-values-requires
-values_of-values-requires c = taken_long (window c.args.log.now c.args.starting.now (times c.args.begin.now c.args.end.now c.args.drift)) c.requires
+pub values_of-requires : goal.values_of-requires
+values_of-requires c = taken_long (window c.args.log.now c.args.starting.now (times c.args.clock.begin.now c.args.clock.end.now c.args.clock.drift)) c.requires
 
-pub clock_of-clock-requires : goal.clock_of-clock-requires
-clock_of-clock-requires c =
-    let ts = times c.args.begin.now c.args.end.now c.args.drift in
+pub clock_of-requires : goal.clock_of-requires
+clock_of-requires c =
+    let ts = times c.args.clock.begin.now c.args.clock.end.now c.args.clock.drift in
     times_short c.args.log.now ts (taken_timed (window c.args.log.now c.args.starting.now ts) c.requires)
 
 pub returns : goal.returns
-returns c = loaded_is (window c.args.log.now c.args.starting.now (times c.args.begin.now c.args.end.now c.args.drift)) _ _ _ c.in_room-bytes.ensures c.values_of-values.ensures c.clock_of-clock.ensures
+returns c = loaded_is (window c.args.log.now c.args.starting.now (times c.args.clock.begin.now c.args.clock.end.now c.args.clock.drift)) _ _ _ c.in_room.ensures c.values_of.ensures c.clock_of.ensures

@@ -1,30 +1,38 @@
-use Rattle.checker.proofs.Writing.{order_stage, order_room, ordered_holds, order_written}
-use Rattle.answers.proofs.Holding.{window_fits, log_loads}
+use Rattle.checker.proofs.Writing.{order_stage, order_room, order_as_was, order_written, order_left_lem}
+use Rattle.answers.specs.Stages.{is_fresh}
+use Rattle.model.specs.Log.{transactions_in}
+use Rattle.refusals.proofs.Numbering.{code_some}
 use lib.Seq.{length-take-le}
-use lib.ListN.{length}
-use mathlib.Core.Path.{◌≡◌, sym}
+use lib.ListN.{length, drop}
+use mathlib.Core.List.{◌++◌}
+use mathlib.Core.Path.{◌≡◌, sym, ap, ◌∙◌}
 use native.Mathlib.Omega.{arith}
 use borrow.Author.Rules.{rules}
 use Rattle.checker.proofs.results.write_order.Goals as goal
 
-pub slice_bounds-bytes-end : goal.slice_bounds-bytes-end
-slice_bounds-bytes-end c =
-    window_fits _ _ _ (ordered_holds c.args.c (order_stage c.args.c _ c.requires))
+pub returns-in_err-test_order-clause-list : goal.returns-in_err-test_order-clause-list
+returns-in_err-test_order-clause-list c = order_as_was c.args.c.now c.args.out.now (λ z. code_some _ (c.in_err-test_order.ensures ∙ z))
 
-pub slice_bounds-transactions-end : goal.slice_bounds-transactions-end
-slice_bounds-transactions-end c =
-    sym (length-take-le _ _ (window_fits _ _ _ (ordered_holds c.args.c (order_stage c.args.c _ c.requires))))
+pub window-requires : goal.window-requires
+window-requires c = ap is_fresh (order_stage c.args.c.now _ (sym c.in_ok-test_order.ensures))
 
-pub transactions-n-requires : goal.transactions-n-requires
-transactions-n-requires c =
-    log_loads _ _ _ (ordered_holds c.args.c (order_stage c.args.c _ c.requires))
+pub slice_bounds-copy_from_slice-end : goal.slice_bounds-copy_from_slice-end
+slice_bounds-copy_from_slice-end c =
+    omega (arith, c.transactions-n.ensures.0, ap transactions_in c.window.ensures.log_is, order_room c.args.c.now _ (sym c.in_ok-test_order.ensures))
 
-pub copy_bytes-requires : goal.copy_bytes-requires
-copy_bytes-requires c =
+pub slice_bounds-copy_from_slice-end-2 : goal.slice_bounds-copy_from_slice-end-2
+slice_bounds-copy_from_slice-end-2 c =
+    sym (length-take-le _ c.args.out.now (omega (arith, c.transactions-n.ensures.0, ap transactions_in c.window.ensures.log_is, order_room c.args.c.now _ (sym c.in_ok-test_order.ensures))))
+
+pub copy_from_slice-requires : goal.copy_from_slice-requires
+copy_from_slice-requires c =
     let told = c.transactions-n.ensures in
-    let long : length c.args.c.order ≡ 32 = search rules in
-    (omega (arith, told.1), omega (arith, told.0, order_room c.args.c (length c.args.out.now) c.requires))
+    let long : length c.args.c.now.order ≡ 32 = search rules in
+    length-take-le _ c.args.out.now (omega (arith, told.0, ap transactions_in c.window.ensures.log_is, order_room c.args.c.now _ (sym c.in_ok-test_order.ensures)))
+    ∙ sym (length-take-le _ c.args.c.now.order (omega (arith, told.1, long)))
 
-pub returns : goal.returns
-returns c =
-    order_written c.args.c c.args.out.now _ _ c.transactions-n.ensures.0 c.copy_bytes.ensures
+pub returns-clause-list : goal.returns-clause-list
+returns-clause-list c =
+    order_left_lem c.args.c.now c.args.out.now _ (sym c.in_ok-test_order.ensures)
+    (order_written c.args.c.now c.args.out.now _ _ (c.transactions-n.ensures.0 ∙ ap transactions_in c.window.ensures.log_is)
+    (ap (λ l. l ++ drop c.transactions-n.result c.args.out.now) c.copy_from_slice.ensures.after))

@@ -1,18 +1,20 @@
-use Rattle.logs.proofs.Numbers.{first_found, first_next, bodies_start}
+use Rattle.std.proofs.Common.{arith, refl}
+use Rattle.std.proofs.lemmas.Result.{err_from_is_err_and}
 use Rattle.model.specs.Log.{bodies_number}
-use borrow.Author.Rules.{rules}
-use native.Mathlib.Omega.{arith}
+use Rattle.model.proofs.Loaded.{first_none}
+use Rattle.refusals.proofs.Numbering.{code_some}
+use Rattle.logs.proofs.Numbers.{first_found, first_next}
 use Rattle.logs.proofs.bodies.first_refused.Goals as goal
 
 pub loop-t-init : goal.loop-t-init
-loop-t-init c = (omega arith, bodies_start _)
+loop-t-init c = first_none (bodies_number c.args.log.now)
 
-pub returns-then-x-ne0 : goal.returns-then-x-ne0
-returns-then-x-ne0 c =
+pub returns-in_err-of_transaction : goal.returns-in_err-of_transaction
+returns-in_err-of_transaction c =
     let l = c.loop-t in
-    first_found (bodies_number c.args.log.now) l.t c.args.n _ (search rules) l.invariant.1 c.of_transaction-x.ensures c.if-x-ne0.true
+    let p = err_from_is_err_and c.from_residual.result c.from_residual.ensures.1 in
+    rw (p.1, p.2)
+    (first_found (bodies_number c.args.log.now) l.t c.args.n _ (omega arith) l.invariant c.in_err-of_transaction.ensures (code_some _))
 
 pub loop-t-preserved : goal.loop-t-preserved
-loop-t-preserved c =
-    let l = c.loop-t in
-    (omega arith, first_next (bodies_number c.args.log.now) l.t _ l.invariant.1 c.of_transaction-x.ensures c.if-x-ne0.false)
+loop-t-preserved c = first_next (bodies_number c.args.log.now) c.loop-t.t _ c.loop-t.invariant c.in_ok-of_transaction.ensures refl

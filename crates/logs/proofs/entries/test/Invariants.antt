@@ -1,10 +1,7 @@
-use Rattle.logs.specs.Tests.{summed_to}
-use mathlib.Core.Path.{◌≡◌}
-use Prim.Native.Nat.{◌≤◌, ◌-◌}
+use Rattle.model.specs.Log.{counts_before, first_number, entry_number}
+use Rattle.std.proofs.Common.{◌≡◌, ◌*◌, ◌≤◌}
 use Rattle.logs.proofs.entries.test.Given as goal
 
 abbrev pub invariant-loop-t : goal.invariant-loop-t
-invariant-loop-t l = (l.t ≤ l.n) × (l.c ≡ summed_to l.log l.t)
-
-abbrev pub decreases-loop-t : goal.decreases-loop-t
-decreases-loop-t l = l.n - l.t
+invariant-loop-t l =
+    record { sum_is : l.sum ≡ counts_before l.log l.t; low : l.sum ≤ 255 * l.t; none : first_number (entry_number l.log) l.t ≡ 0 }

@@ -13,16 +13,14 @@ pub loop-u-preserved : goal.loop-u-preserved
 unfolding put_at
 loop-u-preserved c =
     let a = c.args in
-    let l = c.loop-u in (
-      omega arith,
-      step_next (times a.begin.now a.end.now a.drift) a.out.now l.out _ l.u l.invariant.1
-          (ap (λ x. set l.out l.u (bit_or (get_or l.out l.u 0) x)) c.after-edges.ensures),
-    )
+    let l = c.loop-u in
+    step_next (times a.clock.begin.now a.clock.end.now a.clock.drift) a.out.now l.out _ l.u l.invariant
+    (ap (λ x. set l.out l.u (bit_or (get_or l.out l.u 0) x)) (rw (c.from.ensures, c.from-in-loop-u.ensures) at c.after.ensures))
 
 pub returns : goal.returns
 unfolding with_clock
 returns c =
     let a = c.args in
     let l = c.loop-u in
-    let end : l.u ≡ length a.end.now = omega arith in
-    l.invariant.1 ∙ ap (λ n. fold (clock_step (times a.begin.now a.end.now a.drift)) a.out.now (up_to n)) end
+    let end : l.u ≡ length a.clock.end.now = omega arith in
+    l.invariant ∙ ap (λ n. fold (clock_step (times a.clock.begin.now a.clock.end.now a.clock.drift)) a.out.now (up_to n)) end

@@ -10,10 +10,10 @@ pub loop-v-preserved : goal.loop-v-preserved
 loop-v-preserved c =
     let a = c.args in
     let l = c.loop-v in
-    (omega arith, c.put_if-mask.ensures ∙ word_next (λ (i : ℕ). ltb a.moment (get_or a.begin.now i 0)) l.v l.mask l.invariant.1)
+    rw c.from.ensures at c.put_if-mask.ensures ∙ word_next (λ (i : ℕ). ltb a.moment (get_or a.begin.now i 0)) l.v l.mask l.invariant
 
 pub returns : goal.returns
 returns c =
     let a = c.args in
     let l = c.loop-v in
-    word_all a.begin.now a.moment l.v l.mask (omega arith) (omega (arith, c.requires)) l.invariant.1
+    word_all a.begin.now a.moment l.v l.mask (omega arith) (omega (arith, c.requires)) l.invariant

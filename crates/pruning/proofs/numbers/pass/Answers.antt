@@ -19,7 +19,7 @@ pub loop-i-preserved : goal.loop-i-preserved
 loop-i-preserved c =
     let l = c.loop-i in
     let r = c.resolve-drops in
-    passing_next _ _ _ _ l.i l.kept _ l.chosen l.rows _ r.result c.loop-i-test.true l.invariant
+    passing_next _ _ _ _ l.i l.kept _ l.chosen l.rows _ r.result (omega arith) l.invariant
     (λ g e ti. subst (λ (k : Constraint). Resolves g k r.result r.new.rows) c.nth.ensures (r.ensures g e ti))
     (elim c.if-drops.branch [ then-drops w ↦ w.kept-is ∙ sym (ap (λ (b : Bool). cond b 0 1) w.if-drops.true) | else-drops w ↦ w.kept-is ∙ sym (ap (λ (b : Bool). cond b 0 1) w.if-drops.false) ])
 
@@ -27,5 +27,5 @@ pub returns : goal.returns
 returns c =
     let l = c.loop-i in (
       omega (arith, l.invariant.behind, l.invariant.high),
-      λ g e ti. passing_end _ _ _ _ l.i l.kept l.chosen l.rows c.loop-i-test.false l.invariant g e ti,
+      λ g e ti. passing_end _ _ _ _ l.i l.kept l.chosen l.rows (omega arith) l.invariant g e ti,
     )

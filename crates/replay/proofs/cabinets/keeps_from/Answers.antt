@@ -1,18 +1,17 @@
 use Rattle.replay.proofs.Placing.{kept_back}
-use Rattle.model.proofs.Basics.{all_up_to_in}
-use Rattle.replay.proofs.Alls.{all_stop, failed}
+use Rattle.replay.proofs.Alls.{range_all}
 use Rattle.replay.specs.Steps.{kept_by}
-use borrow.Author.Rules.{rules}
-use native.Mathlib.Omega.{arith}
-use Prim.Native.Nat.{◌+◌}
+use Rattle.model.specs.Lists.{all, up_to}
+use Rattle.std.proofs.Common.{◌+◌, ◌-◌, ◌∙◌, ap, refl, arith, rules, tests}
+use Rattle.std.proofs.lemmas.Iterator.{YieldsList-from_range}
+use Rattle.std.proofs.lemmas.Iterator.Search.{all_from_yields_List}
 use Rattle.replay.proofs.cabinets.keeps_from.Goals as goal
 
-pub loop-v-init : goal.loop-v-init
-loop-v-init c =
+pub returns : goal.returns
+returns c =
     let a = c.args in
-    (omega arith, all_up_to_in (kept_by a.log.now a.places a.u) (a.u + 1) (λ v l. kept_back a.log.now a.places a.u v (omega arith)))
-
-pub returns-then-not-keeps_pair : goal.returns-then-not-keeps_pair
-returns-then-not-keeps_pair c =
-    let a = c.args in
-    all_stop (kept_by a.log.now a.places a.u) c.loop-v.v a.n (search rules) (failed _ _ c.keeps_pair.ensures c.if-not-keeps_pair.true)
+    let n = c.transactions-n.result in
+    let kept = kept_by a.log.bytes.now a.places a.u in
+    all_from_yields_List kept _ _ _ c.all.ensures.ran (YieldsList-from_range (a.u + 1) n (n - (a.u + 1)) refl refl) (λ x b q k. search (rules, tests))
+    ∙ range_all kept (a.u + 1) n (λ v l. kept_back a.log.bytes.now a.places a.u v (omega arith))
+    ∙ ap (λ n. all kept (up_to n)) c.transactions-n.ensures.0

@@ -4,7 +4,7 @@ use mathlib.Core.Path.{sym, ap₂, ◌∙◌}
 use borrow.Author.Tests.{lt-ltb}
 use Rattle.replay.proofs.cabinets.sent_before.Goals as goal
 
-pub returns : goal.returns
-returns c =
-    simp (lt-ltb _ _ c.if-u-v.false)
-    (ap₂ eqb (c.cabinet.ensures ∙ sym (cabinet_at_lem _ c.args.u c.requires.0.below)) (c.cabinet-2.ensures ∙ sym (cabinet_at_lem _ c.args.v c.requires.1.below)))
+pub returns-then-u-v : goal.returns-then-u-v
+returns-then-u-v c =
+    simp (lt-ltb _ _ c.if-u-v.true)
+    (ap₂ eqb (c.cabinet.ensures ∙ sym (cabinet_at_lem _ c.args.u c.requires.0)) (c.cabinet-then-u-v.ensures ∙ sym (cabinet_at_lem _ c.args.v c.requires.1)))

@@ -1,11 +1,14 @@
-use Rattle.replay.proofs.Alls.{all_stop, failed}
-use lib.ListN.{length}
-use native.Mathlib.Omega.{arith}
-use Rattle.replay.proofs.clock.keeps_from.Invariants.{kept}
+use Rattle.replay.proofs.Alls.{numbered_all}
+use Rattle.replay.specs.Steps.{stands_after}
+use Rattle.std.proofs.Common.{ℕ, ◌+◌, ◌∙◌, rules, tests}
+use Rattle.std.proofs.lemmas.Iterator.{YieldsList-from_slice}
+use Rattle.std.proofs.lemmas.Iterator.Consumers.{YieldsList-from_enumerate}
+use Rattle.std.proofs.lemmas.Iterator.Search.{all_from_yields_List}
 use Rattle.replay.proofs.clock.keeps_from.Goals as goal
 
-pub returns-then-not-stands_after : goal.returns-then-not-stands_after
-returns-then-not-stands_after c =
+pub returns : goal.returns
+returns c =
     let a = c.args in
-    let v = c.loop-v.v in
-    all_stop (kept a.begin.now a.moment a.places a.u) v (length a.begin.now) (omega arith) (failed _ _ c.stands_after.ensures c.if-not-stands_after.true)
+    let kept = λ (p : ℕ × ℕ). stands_after (a.end + a.clock.drift) p.1 a.places a.u p.0 in
+    all_from_yields_List kept _ _ _ c.all.ensures.ran (YieldsList-from_enumerate (YieldsList-from_slice a.clock.begin.now (cc)) (cc)) (λ x b q k. search (rules, tests))
+    ∙ numbered_all kept a.clock.begin.now

@@ -1,11 +1,16 @@
 use Rattle.replay.specs.Steps.{stands_after}
-use borrow.Author.Tests.{lt-ltb, le-ltb}
+use Rattle.std.proofs.Common.{◌<◌, ◌≤◌, arith}
+use borrow.Author.Tests.{lt-ltb, le-ltb, le-leb}
 use Rattle.replay.proofs.clock.stands_after.Goals as goal
 
-pub returns-then-moment-begin : goal.returns-then-moment-begin
+pub returns-then-moment-from : goal.returns-then-moment-from
 unfolding stands_after
-returns-then-moment-begin c = simp (le-ltb _ _ c.if-moment-begin.true)
+returns-then-moment-from c =
+    let h : c.args.begin ≤ c.args.moment = omega arith in
+    simp (le-leb _ _ c.if-moment-from.true, le-ltb _ _ h)
 
-pub returns : goal.returns
+pub returns-else-moment-from : goal.returns-else-moment-from
 unfolding stands_after
-returns c = simp (lt-ltb _ _ c.if-moment-begin.false)
+returns-else-moment-from c =
+    let h : c.args.moment < c.args.begin = omega arith in
+    simp (lt-ltb _ _ h)

@@ -6,8 +6,8 @@ use Rattle.replay.proofs.orders.is_new.Goals as goal
 
 pub returns-then-x-n : goal.returns-then-x-n
 unfolding is_new
-returns-then-x-n c = simp (le-ltb _ _ c.if-x-n.true)
+returns-then-x-n c = simp (lt-ltb _ _ c.if-x-n.true) (ap not c.has.ensures)
 
-pub returns : goal.returns
+pub returns-else-x-n : goal.returns-else-x-n
 unfolding is_new
-returns c = simp (lt-ltb _ _ c.if-x-n.false) (ap not c.has.ensures)
+returns-else-x-n c = simp (le-ltb _ _ c.if-x-n.false)

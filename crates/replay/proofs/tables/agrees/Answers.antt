@@ -1,4 +1,5 @@
 use Rattle.replay.specs.Steps.{agrees_by}
+use Rattle.std.proofs.Common.{eqb, ap}
 use borrow.Author.Tests.{eq-eqb, ne_eqb}
 use Rattle.replay.proofs.tables.agrees.Goals as goal
 
@@ -6,6 +7,6 @@ pub returns-then-o-ne0 : goal.returns-then-o-ne0
 unfolding agrees_by
 returns-then-o-ne0 c = simp (ne_eqb _ _ c.if-o-ne0.true)
 
-pub returns : goal.returns
+pub returns-else-o-ne0 : goal.returns-else-o-ne0
 unfolding agrees_by
-returns c = simp (eq-eqb _ _ c.if-o-ne0.false)
+returns-else-o-ne0 c = simp (eq-eqb _ _ c.if-o-ne0.false) (ap (λ x. eqb x c.args.o.argument) c.from.ensures)

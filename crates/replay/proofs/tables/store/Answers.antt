@@ -7,22 +7,20 @@ use Rattle.replay.proofs.tables.store.Goals as goal
 pub loop-m-init : goal.loop-m-init
 loop-m-init c =
     let a = c.args in
-    (omega arith, stored_none a.marks a.log.now a.out.now a.t)
+    stored_none a.marks a.log.bytes.now a.out.now a.t
 
 pub left_by-requires : goal.left_by-requires
 left_by-requires c =
-    (omega (arith, inside_few c.args.log.now c.args.t c.requires), c.operation-o.ensures.argument_fits)
+    (omega (arith, inside_few c.args.log.bytes.now c.args.t (record { loads = c.args.log.taken; below = c.requires })), c.operation-o.ensures.argument_fits)
 
 pub loop-m-preserved : goal.loop-m-preserved
 loop-m-preserved c =
     let a = c.args in
-    let l = c.loop-m in (
-      omega arith,
-      put_is a.marks a.log.now a.out.now a.t l.m l.out _ _ _ l.invariant.1 (operation_is a.log.now a.t l.m _ c.operation-o.ensures) c.left_by.ensures c.kept.ensures,
-    )
+    let l = c.loop-m in
+    put_is a.marks a.log.bytes.now a.out.now a.t l.m l.out _ _ _ l.invariant (operation_is a.log.bytes.now a.t l.m _ c.operation-o.ensures) c.left_by.ensures c.kept.ensures
 
 pub returns : goal.returns
 returns c =
     let a = c.args in
     let l = c.loop-m in
-    l.invariant.1 ∙ stored_all a.marks a.log.now a.out.now a.t l.m c.requires.below (omega (arith, c.count-count.ensures.0))
+    l.invariant ∙ stored_all a.marks a.log.bytes.now a.out.now a.t l.m c.requires (omega (arith, c.count-m-end.ensures.0))

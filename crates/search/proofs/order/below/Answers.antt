@@ -1,10 +1,9 @@
 use Rattle.search.proofs.Leads.{under_none, under_next}
-use native.Mathlib.Omega.{arith}
 use Rattle.search.proofs.order.below.Goals as goal
 
 pub loop-u-init : goal.loop-u-init
-loop-u-init c = (omega arith, under_none _ _)
+loop-u-init c = under_none _ _
 
 pub loop-u-preserved : goal.loop-u-preserved
 loop-u-preserved c =
-    let l = c.loop-u in (omega arith, under_next c.args.rows _ l.u l.out _ l.invariant.1 c.gather-out.ensures)
+    let l = c.loop-u in under_next c.args.rows _ l.u l.out _ l.invariant c.gather-out.ensures

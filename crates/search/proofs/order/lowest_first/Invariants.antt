@@ -1,9 +1,5 @@
 use Rattle.search.proofs.Lowest.{Lowest}
-use Prim.Native.Nat.{◌-◌}
 use Rattle.search.proofs.order.lowest_first.Given as goal
 
 abbrev pub invariant-loop-i : goal.invariant-loop-i
 invariant-loop-i l = Lowest l.t l.rows l.i l.set l.out
-
-abbrev pub decreases-loop-i : goal.decreases-loop-i
-decreases-loop-i l = l.t - l.i

@@ -17,11 +17,11 @@ put_first-d-requires-in-loop-d c = let p = c.loop-d.invariant in
     let k = candidate _ _ _ _ _ _ _ _ _ _ _ _ p _ (lowest_cand _ _ _ _ _ _ _ _ _ _ _ _ p) in
     (k.0, p.progress.ready.partial, k.1, p.un, k.2)
 
-pub returns-then-found : goal.returns-then-found
-returns-then-found c = picked_walk _ _ _ _ _ _ _ _ _ _ _ _ c.loop-d.invariant _ c.put_first-d-in-loop-d.ensures _ _ c.walk-a.ensures c.if-found.true
+pub returns-in-Some : goal.returns-in-Some
+returns-in-Some c = picked_walk _ _ _ _ _ _ _ _ _ _ _ _ c.loop-d.invariant _ c.put_first-d-in-loop-d.ensures _ c.in-Some.ensures
 
 pub clear_low-m-requires : goal.clear_low-m-requires
 clear_low-m-requires c = left_over _ _ _ _ _ _ _ _ _ _ _ _ c.loop-d.invariant
 
 pub loop-d-preserved : goal.loop-d-preserved
-loop-d-preserved c = picking_next _ _ _ _ _ _ _ _ _ _ _ _ c.loop-d.invariant _ c.put_first-d-in-loop-d.ensures c.if-v-free.false _ _ c.walk-a.ensures c.if-found.false _ c.clear_low-m.ensures.0 c.clear_low-m.ensures.1
+loop-d-preserved c = picking_next _ _ _ _ _ _ _ _ _ _ _ _ c.loop-d.invariant _ c.put_first-d-in-loop-d.ensures c.if-v-free.false c.in_default.ensures _ c.clear_low-m.ensures.0 c.clear_low-m.ensures.1

@@ -1,17 +1,20 @@
-use native.Mathlib.Omega.{arith}
-use Rattle.writer.proofs.Renoting.{again_none, again_more, again_refused, again_done}
+use Rattle.std.proofs.Common.{arith, refl, sym, ap, ◌∙◌}
+use Rattle.std.proofs.lemmas.Result.{err_from_is_err_and}
+use Rattle.refusals.proofs.Numbering.{code_some}
+use Rattle.writer.specs.Again.{noting_again}
+use Rattle.writer.proofs.Renoting.{again_none, again_refused, again_done}
 use Rattle.writer.proofs.Notes.again.Goals as goal
 
-pub returns-then-number-ne0 : goal.returns-then-number-ne0
-returns-then-number-ne0 c = again_refused _ _ _ c.fresh-notes.ensures c.number-number.ensures c.if-number-ne0.true
+pub returns-in_err-log : goal.returns-in_err-log
+returns-in_err-log c =
+    let p = err_from_is_err_and c.from_residual.result c.from_residual.ensures.1 in
+    rw (p.1, p.2)
+    (again_refused _ _ _ refl c.in_err-log.ensures.number (code_some _))
 
 pub loop-t-init : goal.loop-t-init
-loop-t-init c = (omega arith, again_none _ _ c.fresh-notes.ensures)
-
-pub loop-t-preserved : goal.loop-t-preserved
-loop-t-preserved c = (omega arith, again_more _ _ _ c.loop-t.t c.loop-t.invariant.1 c.note_transaction-notes.ensures)
+loop-t-init c = again_none _ _ c.fresh-notes.ensures
 
 pub returns : goal.returns
 returns c =
-    let l = c.loop-t in
-    again_done _ _ l.t _ l.invariant.1 (omega (arith, c.transactions-n.ensures.0)) c.number-number.ensures c.if-number-ne0.false
+    again_done _ _ c.loop-t.t 0 c.loop-t.invariant (omega (arith, c.transactions-t-end.ensures.0)) (sym c.in_ok-log.log.taken) refl
+    ∙ ap noting_again c.in_ok-log.ensures.log

@@ -1,14 +1,15 @@
-use native.Mathlib.Omega.{arith}
-use Rattle.writer.proofs.Renoting.{none_noted, more_noted, transaction_noted}
+use Rattle.std.proofs.Common.{arith}
+use Rattle.writer.proofs.Renoting.{opened_now, closed_now}
 use Rattle.writer.proofs.again.note_transaction.Goals as goal
 
-pub loop-m-init : goal.loop-m-init
-loop-m-init c = (omega arith, none_noted _ _ _)
+pub unwrap-requires : goal.unwrap-requires
+unwrap-requires c = (opened_now c.args.log.bytes.now c.args.t c.args.log.taken c.requires.0 _ _ _ _ c.requires.1 c.cabinet.ensures c.open.ensures).0
 
-pub loop-m-preserved : goal.loop-m-preserved
-loop-m-preserved c = (omega arith, more_noted _ _ _ _ _ c.loop-m.m c.loop-m.invariant.1 c.note_operation-begun.ensures)
+pub loop-m-init : goal.loop-m-init
+loop-m-init c = (opened_now c.args.log.bytes.now c.args.t c.args.log.taken c.requires.0 _ _ _ _ c.requires.1 c.cabinet.ensures c.open.ensures).1
+
+pub unwrap-requires-2 : goal.unwrap-requires-2
+unwrap-requires-2 c = (closed_now c.args.log.bytes.now c.args.t c.args.log.taken c.requires.0 _ _ _ c.loop-m.m (omega (arith, c.count-m-end.ensures.0)) c.loop-m.invariant c.close.ensures).0
 
 pub returns : goal.returns
-returns c =
-    let l = c.loop-m in
-    transaction_noted _ _ _ _ _ _ _ l.m c.open-opened.ensures c.cabinet-cabinet.ensures l.invariant.1 (omega (arith, c.count-count.ensures.0)) c.close-closed.ensures
+returns c = (closed_now c.args.log.bytes.now c.args.t c.args.log.taken c.requires.0 _ _ _ c.loop-m.m (omega (arith, c.count-m-end.ensures.0)) c.loop-m.invariant c.close.ensures).1

@@ -1,8 +1,0 @@
-use Rattle.std.proofs.Common.{◌-◌, ◌≤◌, rules}
-use Rattle.permutations.proofs.log_of.Given as goal
-
-abbrev pub invariant-loop-i : goal.invariant-loop-i
-invariant-loop-i l = (l.i ≤ 68)
-
-abbrev pub decreases-loop-i : goal.decreases-loop-i
-decreases-loop-i l = 68 - l.i
