@@ -1,7 +1,7 @@
 -- What Decide finds before it writes anything, and what writing and answering come to. Assumes nothing.
 use Prim.Native.Nat.{ℕ, ◌-◌}
 use mathlib.Core.Path.{◌≡◌, refl, sym, ap, ap₂, subst, ◌∙◌}
-use mathlib.Core.Bool.{true, cond}
+use mathlib.Core.Bool.{Bool, true, cond}
 use mathlib.Core.List.{List, ◌++◌}
 use mathlib.Core.Option.{Option, none, some}
 use lib.ListN.{length, drop, replicate}
@@ -35,21 +35,21 @@ use Rattle.checker.proofs.Verdicts.{deciding_answers, deciding_number}
 
 -- ---- what is found, by the first test
 
-module _ (c : Case) (e pruning places : ℕ) (t ks : List ℕ) where
-  pub fresh_finds : (r : Refusal) → r ≡ NothingLoaded → is_fresh (stage_of c) ≡ true → Finds (decide_refusal c e pruning places) (history_in c) e pruning places true t ks (Err r)
+module _ (c : Case) (e pruning places : ℕ) (listed : Bool) (t ks : List ℕ) where
+  pub fresh_finds : (r : Refusal) → r ≡ NothingLoaded → is_fresh (stage_of c) ≡ true → Finds (decide_refusal c e pruning places) (history_in c) e pruning places listed t ks (Err r)
   unfolding encode_refusal
   fresh_finds r is f = record { number_is = ap code is ∙ sym (ap (λ b. cond b 22 (polygraph_refusal (history_in c) e pruning places 32)) f); found = tt }
 
   pub held_finds : (w : TimedLog) → HeldBy c w → (r : Result Outcome Refusal)
-      → let h = timed_history w.log.bytes.now (times w.clock.begin.now w.clock.end.now w.clock.drift) in Finds (polygraph_refusal h e pruning places 32) h e pruning places true t ks r
-      → Finds (decide_refusal c e pruning places) (history_in c) e pruning places true t ks r
+      → let h = timed_history w.log.bytes.now (times w.clock.begin.now w.clock.end.now w.clock.drift) in Finds (polygraph_refusal h e pruning places 32) h e pruning places listed t ks r
+      → Finds (decide_refusal c e pruning places) (history_in c) e pruning places listed t ks r
   unfolding encode_refusal
   held_finds w held r x =
-      subst (λ n. Finds n (history_in c) e pruning places true t ks r) (sym (ap (λ b. cond b 22 (polygraph_refusal (history_in c) e pruning places 32)) held.counts))
+      subst (λ n. Finds n (history_in c) e pruning places listed t ks r) (sym (ap (λ b. cond b 22 (polygraph_refusal (history_in c) e pruning places 32)) held.counts))
       (subst finds (ap₂ timed_history held.log_is held.times_are) x)
     where
       finds : History → Type 0
-      finds h = Finds (polygraph_refusal h e pruning places 32) h e pruning places true t ks r
+      finds h = Finds (polygraph_refusal h e pruning places 32) h e pruning places listed t ks r
 
 -- ---- the answer: the case with the first legal order stored, or with 'no order', and what says so
 

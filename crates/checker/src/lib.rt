@@ -18,7 +18,7 @@ pub use answers::{Clock, Judgement, Stage, Verdict};
 use listing::{PLACES, WORDS};
 use logs::times::Times;
 use model::Constraint;
-pub use refusals::Refusal;
+pub use refusals::{Refusal, number_of};
 pub use wear::Bill;
 
 mod deciding;
@@ -140,14 +140,7 @@ impl Case {
                 left: 0,
             },
             Ok(known) => {
-                let r = encoding::write(
-                    &tables,
-                    &chosen,
-                    known.rows,
-                    known.count,
-                    pruning == 1,
-                    list,
-                );
+                let r = encoding::write(&tables, &chosen, known.rows, known.count, pruning, list);
                 rows[..32].copy_from_slice(&r.rows);
                 Encoding {
                     case: self,

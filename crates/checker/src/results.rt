@@ -54,6 +54,6 @@ pub(crate) fn write_bills(c: &Case, list: &mut [Bill]) -> Result<(), Refusal>
     let log = window(c).log;
     let n = log.transactions();
     let bills = billing::bills(log, &c.order[..n], c.starting);
-    list[..16].copy_from_slice(&bills);
+    billing::put(bills, 16, list);
     Ok(())
 }

@@ -4,7 +4,7 @@ use trial::START;
 use trial::times::Times;
 
 // The edge u→v.
-fn add_edge(rows: &mut [u32; 32], u: usize, v: usize) {
+pub fn add_edge(rows: &mut [u32; 32], u: usize, v: usize) {
     rows[u % 32] |= bit(v);
 }
 

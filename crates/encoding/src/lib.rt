@@ -6,7 +6,7 @@ ghost use Rattle.model.specs.History.{History};
 ghost use Rattle.model.specs.Log.{history_of};
 ghost use Rattle.model.specs.Times.{times, timed_history};
 ghost use Rattle.model.specs.Lent.{no_constraint};
-ghost use Rattle.setting.specs.Encodings.{encoding_number, pruning_number};
+ghost use Rattle.setting.specs.Encodings.{encoding_number};
 ghost use Rattle.listing.specs.Candidates.{items_by};
 ghost use Rattle.listing.specs.Choosing.{Space};
 ghost use Rattle.listing.specs.Listing.{Chosen};
@@ -65,7 +65,7 @@ pub fn prepare(
     let mut marks = [0u32; MARKS];
     let mut slots = [0u16; 256];
     polygraph::read_marks(reads, &writers, &mut slots, &mut marks);
-    let mut rows = polygraph::known(log, encoding, reads, &slots, &writers, &marks);
+    let mut rows = polygraph::known(log, encoding.number(), reads, &slots, &writers, &marks);
     polygraph::clock::add(window.clock, &mut rows);
     let n = log.transactions();
     let count = choose(log, n, encoding, &writers, &marks, tables, chosen);
@@ -79,14 +79,14 @@ pub fn write<'a, 'b>(
     chosen: &'a [u16; PLACES],
     rows: [u32; 32],
     n: u16,
-    pruned: bool,
+    pruning: u8,
     list: &'b mut [Constraint],
 ) -> Pruned
     requires { Writable n (length list.old) }
-    ensures { (h : History) (e : ℕ) → Planned h e tables.now chosen.now rows n → Encoded h e (pruning_number pruned) list.old result list.new }
+    ensures { (h : History) (e : ℕ) → Planned h e tables.now chosen.now rows n → Encoded h e pruning list.old result list.new }
 {
     listing::list(tables, chosen, n, list);
-    let r = pruning::prune(rows, list, n, pruned);
+    let r = pruning::prune(rows, list, n, pruning);
     pruning::clear(list, r.left, n);
     r
 }

@@ -48,14 +48,16 @@ fn absorb(via: u32, k: u32, row: u32) -> u32
 }
 
 // One round of the closure: an edge from u to v wherever the path u, k, v is there.
-fn stage(k: usize, rows: &mut [u32; 32])
+fn stage(k: usize, rows: [u32; 32]) -> [u32; 32]
     requires { k < 32 }
-    ensures { rows.new ≡ through rows.old k }
+    ensures { result ≡ through rows k }
 {
     let via = rows[k];
-    for row in rows.iter_mut() {
+    let mut out = rows;
+    for row in out.iter_mut() {
         *row = absorb(via, k as u32, *row);
     }
+    out
 }
 
 // Below which number all nodes are that an edge leaves.
@@ -77,7 +79,9 @@ pub fn closure(rows: [u32; 32]) -> [u32; 32]
     let n = top(rows);
     let mut out = rows;
     for k in 0..n {
-        stage(k, &mut out);
+        // in two steps: a call's result that goes straight into an array that is there gets no generated proof
+        let next = stage(k, out);
+        out = next;
     }
     out
 }

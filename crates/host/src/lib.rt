@@ -10,7 +10,6 @@ ghost use Rattle.model.specs.History.{History, is_order};
 ghost use Rattle.model.specs.Log.{transactions_in};
 ghost use Rattle.model.specs.Times.{times, no_times};
 ghost use Rattle.model.specs.Window.{window, zeros};
-ghost use Rattle.setting.specs.Encodings.{pruning_number};
 ghost use Rattle.encoding.specs.Writing.{Planned};
 ghost use Rattle.lender.specs.Sending.{PlanFor};
 ghost use Rattle.codes.specs.Images.{seconds_in};
@@ -359,15 +358,15 @@ fn send<'a, 'b>(
     tables: &'a [u32; WORDS],
     chosen: &'a [u16; PLACES],
     plan: Known,
-    pruned: bool,
+    pruning: u8,
     out: &'b mut [u8],
 ) -> Result<(), Refusal>
     requires { PlanFor tables.now chosen.now plan.rows plan.count }
-    ensures result { (h : History) (e : ℕ) → Planned h e tables.now chosen.now plan.rows plan.count → number_of result ≡ sent_code h e (pruning_number pruned) (length out.old) }
-    ensures list { (h : History) (e : ℕ) → Planned h e tables.now chosen.now plan.rows plan.count → out.new ≡ sent_after h e (pruning_number pruned) out.old }
+    ensures result { (h : History) (e : ℕ) → Planned h e tables.now chosen.now plan.rows plan.count → number_of result ≡ sent_code h e pruning (length out.old) }
+    ensures list { (h : History) (e : ℕ) → Planned h e tables.now chosen.now plan.rows plan.count → out.new ≡ sent_after h e pruning out.old }
 {
     let mut words = [0u32; LIST_WORDS];
-    let r = lender::written(tables, chosen, plan.rows, plan.count, pruned, &mut words);
+    let r = lender::written(tables, chosen, plan.rows, plan.count, pruning, &mut words);
     let left = usize::from(r.left);
     if out.len() < 130 + 10 * left {
         return Err(Refusal::TooFewPlaces);
@@ -392,7 +391,7 @@ fn encode(
     let mut tables = [0u32; WORDS];
     let mut chosen = [0u16; PLACES];
     let plan = encoding::prepare(held, setting.encoding, &mut tables, &mut chosen);
-    send(&tables, &chosen, plan, setting.pruned, out)
+    send(&tables, &chosen, plan, pruning, out)
 }
 
 // The same with times as bytes.

@@ -40,7 +40,7 @@ pub fn values(bytes: &[u8]) -> [u16; 32]
 {
     let mut out = [0u16; 32];
     for i in 0..32 {
-        out[i] = u16::from_le_bytes([bytes[2 * i], bytes[2 * i + 1]]);
+        out[i] = logs::fields::pair(bytes, 2 * i) as u16;
     }
     out
 }

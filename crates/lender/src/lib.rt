@@ -5,7 +5,6 @@
 ghost use Rattle.std.specs.Prelude.{◌≡◌, ℕ, ◌≤◌, ◌*◌, length, replicate};
 ghost use Rattle.model.specs.History.{History};
 ghost use Rattle.model.specs.Lent.{no_constraint};
-ghost use Rattle.setting.specs.Encodings.{pruning_number};
 ghost use Rattle.encoding.specs.Writing.{Planned};
 ghost use Rattle.checker.specs.Encodings.{encode_answer, encode_list, encode_rows};
 ghost use Rattle.checker.specs.Decisions.{deciding};
@@ -61,14 +60,14 @@ pub fn written<'a, 'b>(
     chosen: &'a [u16; PLACES],
     rows: [u32; 32],
     n: u16,
-    pruned: bool,
+    pruning: u8,
     out: &'b mut [u32],
 ) -> Pruned
     requires { PlanFor tables.now chosen.now rows n × (16384 ≤ length out.old) }
-    ensures { (h : History) (e : ℕ) → Planned h e tables.now chosen.now rows n → Sent h e (pruning_number pruned) result out.old out.new }
+    ensures { (h : History) (e : ℕ) → Planned h e tables.now chosen.now rows n → Sent h e pruning result out.old out.new }
 {
     let mut list = [NOTHING; 4096];
-    let r = encoding::write(tables, chosen, rows, n, pruned, &mut list);
+    let r = encoding::write(tables, chosen, rows, n, pruning, &mut list);
     pack(&mut list, usize::from(r.left), out);
     r
 }

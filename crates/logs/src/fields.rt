@@ -1,4 +1,4 @@
-// Two-byte fields of a log, as numbers. A starting table from C has such fields too.
+// Two-byte fields of a log, as numbers.
 ghost use Rattle.std.specs.Prelude.{◌≡◌, ◌+◌, ◌<◌, length};
 ghost use Rattle.model.specs.Log.{pair_at};
 

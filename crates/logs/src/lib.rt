@@ -31,10 +31,10 @@ pub fn test(log: &[u8]) -> Result<(), Refusal>
         return Err(Refusal::CountsTooHigh);
     }
     let said = 4 + 4 * t + 4 * n;
-    if log.len() < said {
-        return Err(Refusal::LogTooShort);
-    }
-    if log.len() > said {
+    if log.len() != said {
+        if log.len() < said {
+            return Err(Refusal::LogTooShort);
+        }
         return Err(Refusal::LogTooLong);
     }
     let sum = entries::test(log, t)?;

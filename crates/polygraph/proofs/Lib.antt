@@ -6,4 +6,3 @@ pub mod Cabinets
 pub mod RowWords
 pub mod ReadEdges
 pub mod Timing
-pub mod Encodings

@@ -7,13 +7,11 @@ ghost use Rattle.model.specs.Lists.{bit};
 ghost use Rattle.model.specs.Polygraph.{rows};
 ghost use Rattle.model.specs.Log.{transactions_in, start_at, history_of};
 ghost use Rattle.graph.specs.Masks.{put_if};
-ghost use Rattle.setting.specs.Encodings.{encoding_number};
 ghost use Rattle.polygraph.specs.Tables.{writers_of, packed_as, read_marks_of, slot_by, slot_in, SlotsOf, mark_step, Unmarked, DecodedOne, Decoded, DecodedTo};
 ghost use Rattle.polygraph.specs.Edges.{next_by, successors_by, cabinet_rows, own_edge, read_step};
 
 use graph::mask::{has, lowest, member, put_if, with, without};
 use logs::Log;
-use setting::Encoding;
 
 pub mod clock;
 
@@ -224,25 +222,25 @@ fn add_read(
     out[t as usize] |= own_edges(at, t, writers[key], marks[at as usize], chained);
 }
 
-// The known edges of a log in an encoding, without those by the office clock, which `clock::add` adds: 32 row words.
+// The known edges of a log in the encoding of a number, without those by the office clock, which `clock::add` adds: 32 row words. Of the numbers 2 alone has edges of
+// its own.
 pub fn known(
     log: Log<'_>,
-    encoding: Encoding,
+    encoding: u8,
     reads: &[u32],
     slots: &[u16; 256],
     writers: &[u32; 32],
     marks: &[u32; MARKS],
 ) -> [u32; 32]
     requires { DecodedTo log.bytes.now writers.now reads.now × SlotsOf writers.now reads.now (length reads.now) slots.now × (marks.now ≡ read_marks_of (history_of log.bytes.now)) }
-    ensures { result ≡ rows (history_of log.entry.bytes.now) (encoding_number encoding) }
+    ensures { result ≡ rows (history_of log.entry.bytes.now) encoding }
 {
-    let chained = encoding == Encoding::Chained;
     let mut out = [0u32; 32];
     add_cabinets(log, &mut out);
     // By an index: over a zip of the two it is slower by a quarter.
     for (i, read) in reads.iter().enumerate() {
         let at = u32::from(slots[i]);
-        add_read(*read, at, chained, writers, marks, &mut out);
+        add_read(*read, at, encoding == 2, writers, marks, &mut out);
     }
     out
 }

@@ -5,7 +5,6 @@
 ghost use Rattle.std.specs.Prelude.{◌≡◌, List, ◌++◌, ℕ, ◌-◌, ◌<◌, ◌≤◌, IfSome, length, take, drop, replicate};
 ghost use Rattle.model.specs.Polygraph.{reach};
 ghost use Rattle.model.specs.Lent.{no_constraint};
-ghost use Rattle.setting.specs.Encodings.{pruning_number};
 ghost use Rattle.pruning.specs.Passes.{LowTargets, Aims, resolution_of, first_place, next_place, Skimmed, Pruning};
 
 use graph::Side;
@@ -123,12 +122,11 @@ fn after(p: Place, h: Hit) -> Place
     }
 }
 
-// Where pruning of n constraints starts; where it is not done all are kept, and no pass is on.
-#[tactic(auto, unfolding(crate::specs::Passes::first_place))]
-fn begin(n: u16, pruned: bool) -> Place
-    ensures { result ≡ first_place n (pruning_number pruned) }
+// Where pruning of n constraints starts; with any number but 1 it is not done: all are kept, and no pass is on.
+fn begin(n: u16, pruning: u8) -> Place
+    ensures { result ≡ first_place n pruning }
 {
-    if pruned {
+    if pruning == 1 {
         Place {
             at: 0,
             kept: 0,
@@ -145,14 +143,14 @@ fn begin(n: u16, pruned: bool) -> Place
     }
 }
 
-// Where pruning is done, passes over the first n constraints, until one drops none: those left stand first, in their order.
-pub fn prune(rows: [u32; 32], list: &mut [Constraint], n: u16, pruned: bool) -> Pruned
+// With pruning 1, passes over the first n constraints, until one drops none: those left stand first, in their order.
+pub fn prune(rows: [u32; 32], list: &mut [Constraint], n: u16, pruning: u8) -> Pruned
     requires { (n ≤ length list.old) × Aims list.old n }
-    ensures { Pruning rows list.old n (pruning_number pruned) result list.new }
+    ensures { Pruning rows list.old n pruning result list.new }
 {
     let mut known = rows;
     let mut closed = graph::closure(rows);
-    let mut p = begin(n, pruned);
+    let mut p = begin(n, pruning);
     while p.on {
         let h = skim(&closed, list, p.at, p.kept, p.end);
         p = after(p, h);
@@ -160,7 +158,8 @@ pub fn prune(rows: [u32; 32], list: &mut [Constraint], n: u16, pruned: bool) -> 
             // in two steps: a call's result that goes straight into an array that is there gets no generated proof
             let next = graph::add_side(known, side.from, side.to);
             known = next;
-            graph::take(&mut closed, side.from, side.to);
+            let grown = graph::extend(closed, side.from, side.to);
+            closed = grown;
         }
     }
     Pruned {

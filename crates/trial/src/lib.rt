@@ -49,6 +49,19 @@ pub const KINDS: [Kind; 5] = [
     Kind::Chains,
 ];
 
+// The kind with a number: every number but those of the others is that of serial runs.
+impl From<u8> for Kind {
+    fn from(number: u8) -> Kind {
+        match number {
+            0 => Kind::Any,
+            2 => Kind::Disturbed,
+            3 => Kind::Blind,
+            4 => Kind::Chains,
+            _ => Kind::Serial,
+        }
+    }
+}
+
 impl Kind {
     // What the test programs call it.
     pub fn name(self) -> &'static [u8] {
@@ -185,7 +198,8 @@ impl Sample {
 
 // A sample of a kind from a random number, of at most 32 transactions: of the kinds but `Any`, what a run in some order would have read, with one
 // read changed in `Disturbed`; a read-back never is.
-pub fn history(kind: Kind, size: u8, keys: u8, seed: u64) -> Sample {
+pub fn history<K: Into<Kind>>(kind: K, size: u8, keys: u8, seed: u64) -> Sample {
+    let kind = kind.into();
     let mut s = scattered(kind, size, keys, seed);
     s.read_back(seed);
     if kind != Kind::Any {
@@ -199,7 +213,7 @@ pub fn history(kind: Kind, size: u8, keys: u8, seed: u64) -> Sample {
 }
 
 // A small one: up to 6 transactions over 1 to 3 keys.
-pub fn small(kind: Kind, seed: u64) -> Sample {
+pub fn small<K: Into<Kind>>(kind: K, seed: u64) -> Sample {
     let size = below(chance(seed, 200), 7) as u8;
     let keys = 1 + below(chance(seed, 201), 3) as u8;
     history(kind, size, keys, seed)

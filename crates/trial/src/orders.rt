@@ -22,7 +22,7 @@ pub fn shuffled(n: u8, seed: u64) -> [u8; 32] {
 
 // A run of the sample in the order: the read of a key is made to name the one who wrote it last, then the write is stored. A read-back is passed by: the write
 // before it explains it.
-pub(crate) fn read_in_run(s: &mut Sample, order: &[u8; 32]) {
+pub fn read_in_run(s: &mut Sample, order: &[u8; 32]) {
     let mut last = [START; 4];
     for t in order.iter().take(usize::from(s.size)) {
         let place = 4 * usize::from(t % 32);

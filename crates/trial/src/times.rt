@@ -30,6 +30,18 @@ pub enum Manner {
     Ends,
 }
 
+// The manner with a number: from 3 on that of both ends of the range.
+impl From<u8> for Manner {
+    fn from(number: u8) -> Manner {
+        match number {
+            0 => Manner::Run,
+            1 => Manner::Disturbed,
+            2 => Manner::Close,
+            _ => Manner::Ends,
+        }
+    }
+}
+
 // One of them by a number.
 pub fn manner_by(n: u64) -> Manner {
     match n % 4 {
@@ -192,10 +204,10 @@ fn all_ends(drift: u32, seed: u64) -> Spans {
 // ---- all manners
 
 // Times of so many transactions in a manner. The run is in the order.
-pub fn of_manner(manner: Manner, size: u8, order: &[u8; 32], seed: u64) -> Times {
+pub fn of_manner<M: Into<Manner>>(manner: M, size: u8, order: &[u8; 32], seed: u64) -> Times {
     let drift = drift_by(chance(seed, 601));
     let gap = gap_by(drift, chance(seed, 602));
-    let spans = match manner {
+    let spans = match manner.into() {
         Manner::Run => of_run(order, gap, seed),
         Manner::Disturbed => of_run(&disturbed(order, size, seed), gap, seed),
         Manner::Close => all_close(drift, seed),

@@ -1,18 +1,27 @@
 // Logs noted again and written: the largest of the test programs, and those of the repository's folder samples.
 use crate::notes::write;
-use refusals::number_of;
+use refusals::{Refusal, number_of};
 use samples::lines::{end, number, text, yes_no};
 use samples::{first, full, full_backed, long};
-use trial::pair;
+use std::array;
+use trial::{byte, pair};
 use writer::Notes;
 
-// The line of a log: its length; the number with which it is noted again; where that is not 0, no notes but fresh ones; else the number and the length of the
-// writing, and whether the bytes are the same.
-fn show_log(name: &[u8], log: &[u8]) {
-    let again = Notes::again(log);
+// A log of so many bytes noted again; fresh notes where there are not so many.
+fn noted_again(log: &[u8], length: usize) -> Result<Notes, Refusal> {
+    match log.get(..length) {
+        Some(bytes) => Notes::again(bytes),
+        None => Ok(Notes::fresh()),
+    }
+}
+
+// The line of a log, the first `length` bytes: its length; the number with which it is noted again; where that is not 0, no notes but fresh ones; else the number
+// and the length of the writing, and whether the bytes are the same.
+fn show_first(name: &[u8], log: &[u8], length: usize) {
+    let again = noted_again(log, length);
     let notes = again.unwrap_or(Notes::fresh());
     text(name);
-    number(log.len() as u64);
+    number(length as u64);
     text(b" bytes, noted again");
     number(number_of(again));
     if again.is_err() {
@@ -27,28 +36,35 @@ fn show_log(name: &[u8], log: &[u8]) {
     text(b", length");
     number(l.length() as u64);
     text(b", the same bytes");
-    yes_no(l.wrote(log));
+    yes_no(l.wrote(log.get(..length).unwrap_or(log)));
     end();
 }
 
-// All samples, one behind the other: the name of each in 8 bytes, its length in two, and the log; and whether no byte is left over.
+fn show_log(name: &[u8], log: &[u8]) {
+    show_first(name, log, log.len());
+}
+
+// Shows the sample at a place: its name in 8 bytes, its length in two, and the log, in 1,160 bytes with zeros behind the input. Gives the place of the next.
+fn show_sample(input: &[u8], from: usize) -> usize {
+    let from = from % 4096;
+    if from + 10 >= input.len() {
+        return from;
+    }
+    let name: [u8; 8] = array::from_fn(|i| byte(input, from + i % 8));
+    let length = usize::from(pair(input, from + 8));
+    let log: [u8; 1160] = array::from_fn(|i| byte(input, from + 10 + i % 1160));
+    show_first(&name, &log, length);
+    from + 10 + length
+}
+
+// All samples, one behind the other; and whether no byte is left over.
 fn show_samples(input: &[u8]) {
-    let mut rest = input;
+    let mut from = 0;
     for _ in 0..64 {
-        let Some((name, sized)) = rest.split_at_checked(8) else {
-            break;
-        };
-        let Some((size, behind)) = sized.split_at_checked(2) else {
-            break;
-        };
-        let Some((log, next)) = behind.split_at_checked(usize::from(pair(size, 0))) else {
-            break;
-        };
-        show_log(name, log);
-        rest = next;
+        from = show_sample(input, from);
     }
     text(b"no byte of the samples is left over");
-    yes_no(rest.is_empty());
+    yes_no(from == input.len());
     end();
 }
 

@@ -1,6 +1,5 @@
 -- The constraints are listed, pruned, and four zeros take the places of those that pruning dropped.
 use Rattle.std.proofs.Common.{arith}
-use Rattle.setting.specs.Encodings.{pruning_number}
 use Rattle.encoding.proofs.Laws.{aimed, encoded}
 use Rattle.encoding.proofs.write.Goals as goal
 
@@ -12,4 +11,4 @@ prune-r-requires c =
 pub returns : goal.returns
 returns c =
     let a = c.args in
-    λ h e plan. encoded a.tables.now a.chosen.now a.rows a.n h e (pruning_number a.pruned) plan a.list.now _ _ _ c.prune-r.result c.list.ensures c.prune-r.ensures c.clear.ensures
+    λ h e plan. encoded a.tables.now a.chosen.now a.rows a.n h e a.pruning plan a.list.now _ _ _ c.prune-r.result c.list.ensures c.prune-r.ensures c.clear.ensures

@@ -8,6 +8,6 @@ pub returns : goal.returns
 unfolding through
 returns c =
     let l = c.loop-row in
-    let small : (u : ℕ) → get_or c.args.rows.now u 0 < 2 ^ 32 = λ u. (let f : Fits w32 (get_or c.args.rows.now u 0) = search rules in f.fits) in
-    swept_end _ c.args.rows.now l.rows l.row-index (l.invariant (search rules)) (omega arith) _
-    (λ u h. absorb_is c.args.rows.now c.args.k u small)
+    let small : (u : ℕ) → get_or c.args.rows u 0 < 2 ^ 32 = λ u. (let f : Fits w32 (get_or c.args.rows u 0) = search rules in f.fits) in
+    swept_end _ c.args.rows l.row-items l.row-index l.invariant (omega arith) _
+    (λ u h. absorb_is c.args.rows c.args.k u small)

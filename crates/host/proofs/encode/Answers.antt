@@ -1,4 +1,4 @@
-use mathlib.Core.Path.{refl, sym, ap₂, ◌∙◌}
+use mathlib.Core.Path.{refl, sym, ap, ◌∙◌}
 use Prim.Native.Nat.{ℕ}
 use lib.ListN.{length}
 use Rattle.std.proofs.lemmas.Result.{err_from_is_err_and}
@@ -40,8 +40,8 @@ returns c =
     let gave = c.send.ensures in
     let plan = c.prepare-plan.ensures in
     let all = encode_sent c.in_ok-held.held a.log.now a.clock c.in_ok-held.ensures.log a.encoding a.pruning a.out.now (sym c.in_ok-setting.ensures.number) _ _
-    (gave.result _ _ plan ∙ ap₂ (λ (e p : ℕ). sent_code h e p (length a.out.now)) is.0 is.1)
-    (gave.list _ _ plan ∙ ap₂ (λ (e p : ℕ). sent_after h e p a.out.now) is.0 is.1) in
+    (gave.result _ _ plan ∙ ap (λ (e : ℕ). sent_code h e a.pruning (length a.out.now)) is.0)
+    (gave.list _ _ plan ∙ ap (λ (e : ℕ). sent_after h e a.pruning a.out.now) is.0) in
     record {
       result = all.0;
       list = all.1;

@@ -1,7 +1,6 @@
 -- The constraints left fit the list and the words, and go out.
 use Rattle.std.proofs.Common.{ℕ, ◌≤◌, List, sym, ap, subst, ◌∙◌, arith}
 use Rattle.model.specs.declared.Constraint.{Constraint}
-use Rattle.setting.specs.Encodings.{pruning_number}
 use Rattle.lender.specs.Packing.{packed}
 use Rattle.lender.proofs.Places.{places_long}
 use Rattle.lender.proofs.Within.{planned_within}
@@ -12,7 +11,7 @@ pack-requires c =
     let a = c.args in
     let p = c.requires.0 in
     let r = c.write-r in
-    let low : r.result.left ≤ 4096 = subst (λ (k : ℕ). k ≤ 4096) (sym (r.ensures p.h p.e p.plan).left_is) (planned_within p.h p.e (pruning_number a.pruned) a.tables.now a.chosen.now a.rows a.n p.plan) in
+    let low : r.result.left ≤ 4096 = subst (λ (k : ℕ). k ≤ 4096) (sym (r.ensures p.h p.e p.plan).left_is) (planned_within p.h p.e a.pruning a.tables.now a.chosen.now a.rows a.n p.plan) in
     (omega (arith, low, r.auto.list, places_long), omega (arith, low))
 
 pub returns : goal.returns

@@ -19,14 +19,14 @@ returns-then-t-gt32 c =
       | then-t-gt32-via-else-t-gt32+then-n-gt256 w ↦ load_many_n b (omega arith) (omega (arith, is.0, is.1))
     ]
 
-pub returns-then-log-said : goal.returns-then-log-said
-returns-then-log-said c =
+pub returns-then-log-said-2 : goal.returns-then-log-said-2
+returns-then-log-said-2 c =
     let b = c.args.log.now in
     let is = head_out b _ c.header-h.ensures in
     load_shorter b (omega arith) (omega (arith, is.0, is.1)) (omega (arith, is.0, is.1)) (omega (arith, is.0, is.1))
 
-pub returns-then-log-said-2 : goal.returns-then-log-said-2
-returns-then-log-said-2 c =
+pub returns-then-log-said : goal.returns-then-log-said
+returns-then-log-said c =
     let b = c.args.log.now in
     let is = head_out b _ c.header-h.ensures in
     load_longer b (omega arith) (omega (arith, is.0, is.1)) (omega (arith, is.0, is.1)) (omega (arith, is.0, is.1))

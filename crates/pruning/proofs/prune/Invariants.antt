@@ -2,12 +2,11 @@
 use Rattle.std.proofs.Common.{◌≡◌, length}
 use Rattle.graph.proofs.Rows.{Small}
 use Rattle.model.specs.Polygraph.{reach}
-use Rattle.setting.specs.Encodings.{pruning_number}
 use Rattle.pruning.proofs.Turns.{Stands, todo}
 use Rattle.pruning.proofs.prune.Given as goal
 
 abbrev pub invariant-loop-p : goal.invariant-loop-p
-invariant-loop-p l = (length l.known ≡ 32) × Small l.known × (l.closed ≡ reach l.known) × Stands l.fn.rows l.initial.list l.n (pruning_number l.fn.pruned) l.known l.list l.p
+invariant-loop-p l = (length l.known ≡ 32) × Small l.known × (l.closed ≡ reach l.known) × Stands l.fn.rows l.initial.list l.n l.fn.pruning l.known l.list l.p
 
 abbrev pub decreases-loop-p : goal.decreases-loop-p
 decreases-loop-p l = todo l.p

@@ -1,9 +1,7 @@
 -- A refusal writes nothing; else the polygraph of the plan is written to the two lists.
-use Rattle.std.proofs.Common.{◌≡◌, ◌∙◌, sym, ap, subst, ◌++◌, length, drop, rules}
+use Rattle.std.proofs.Common.{◌≡◌, ◌∙◌, sym, ap, ◌++◌, length, drop, rules}
 use lib.Seq.{length-take-le}
 use Rattle.checker.specs.Cases.{history_in}
-use Rattle.encoding.specs.Writing.{Encoded}
-use Rattle.setting.proofs.Numbers.{pruned_is}
 use Rattle.checker.proofs.Encodes.{encodes_refused, encodes_done}
 use Rattle.checker.proofs.Case.encode.Goals as goal
 
@@ -24,4 +22,4 @@ returns-in-Ok c =
     let a = c.args in
     let r = c.write-r.result in
     encodes_done a.self a.encoding a.pruning a.list.now a.rows.now c.in-Ok.ensures.number_is r _ _ _ c.from.ensures
-    (subst (λ p. Encoded (history_in a.self) a.encoding p a.list.now r c.write-r.new.list) (pruned_is a.pruning c.in-Ok.ensures.ready.low) (c.write-r.ensures (history_in a.self) a.encoding c.in-Ok.ensures.ready.plan)) (ap (λ l. l ++ drop 32 a.rows.now) c.copy_from_slice.ensures.after)
+    (c.write-r.ensures (history_in a.self) a.encoding c.in-Ok.ensures.ready.plan) (ap (λ l. l ++ drop 32 a.rows.now) c.copy_from_slice.ensures.after)

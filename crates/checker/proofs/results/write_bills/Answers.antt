@@ -5,8 +5,11 @@ use Rattle.wear.specs.Wear.{moves}
 use Rattle.wear.specs.Bills.{bills_of}
 use Rattle.refusals.proofs.Numbering.{code_some}
 use Rattle.std.proofs.lemmas.Result.{err_from_is_err_and}
-use lib.Seq.{length-take-le}
-use lib.ListN.{length, take}
+use Rattle.std.proofs.lemmas.List.{take_all}
+use Rattle.wear.specs.declared.Bill.{Bill}
+use native.Mathlib.Omega.{arith}
+use lib.ListN.{length, take, drop}
+use mathlib.Core.List.{List, ◌++◌}
 use mathlib.Core.Path.{◌≡◌, sym, ap, ◌∙◌}
 use borrow.Author.Rules.{rules}
 use Rattle.checker.proofs.results.write_bills.Goals as goal
@@ -27,17 +30,8 @@ pub bills-bills-requires : goal.bills-bills-requires
 bills-bills-requires c =
     order_held c.args.c.now _ c.window.ensures _ c.transactions-n.ensures.0 (bills_stage c.args.c.now _ (sym (bills_number c.args.c.now _ _ _ c.stage_of.ensures c.in_ok-test_stage.ensures)))
 
-pub slice_bounds-copy_from_slice-end : goal.slice_bounds-copy_from_slice-end
-slice_bounds-copy_from_slice-end c = bills_room c.args.c.now _ (sym (bills_number c.args.c.now _ _ _ c.stage_of.ensures c.in_ok-test_stage.ensures))
-
-pub slice_bounds-copy_from_slice-end-2 : goal.slice_bounds-copy_from_slice-end-2
-slice_bounds-copy_from_slice-end-2 c =
-    sym (length-take-le 16 c.args.list.now (bills_room c.args.c.now _ (sym (bills_number c.args.c.now _ _ _ c.stage_of.ensures c.in_ok-test_stage.ensures))))
-
-pub copy_from_slice-requires : goal.copy_from_slice-requires
-copy_from_slice-requires c =
-    let long : length c.bills-bills.result ≡ 16 = search rules in
-    length-take-le 16 c.args.list.now (bills_room c.args.c.now _ (sym (bills_number c.args.c.now _ _ _ c.stage_of.ensures c.in_ok-test_stage.ensures))) ∙ sym long
+pub put-requires : goal.put-requires
+put-requires c = (omega arith, bills_room c.args.c.now _ (sym (bills_number c.args.c.now _ _ _ c.stage_of.ensures c.in_ok-test_stage.ensures)))
 
 pub returns-clause-number : goal.returns-clause-number
 returns-clause-number c = bills_number c.args.c.now _ _ _ c.stage_of.ensures c.in_ok-test_stage.ensures
@@ -46,6 +40,8 @@ pub returns-clause-list : goal.returns-clause-list
 returns-clause-list c =
     let a = c.args.c.now in
     let log = c.window.ensures.log_is in
-    bills_left_lem a c.args.list.now _ (sym (bills_number a _ _ _ c.stage_of.ensures c.in_ok-test_stage.ensures))
-    (c.copy_from_slice.ensures.after
-    ∙ bills_are a _ _ (c.transactions-n.ensures.0 ∙ ap transactions_in log) (c.bills-bills.ensures ∙ ap (λ b. bills_of (moves (history_of b) a.starting (take c.transactions-n.result a.order))) log))
+    let long : length c.bills-bills.result ≡ 16 = search rules in
+    c.put.ensures
+    ∙ ap (λ (l : List Bill). l ++ drop 16 c.args.list.now) (take_all 16 c.bills-bills.result (omega (arith, long)))
+    ∙ bills_left_lem a c.args.list.now _ (sym (bills_number a _ _ _ c.stage_of.ensures c.in_ok-test_stage.ensures))
+    (bills_are a _ _ (c.transactions-n.ensures.0 ∙ ap transactions_in log) (c.bills-bills.ensures ∙ ap (λ b. bills_of (moves (history_of b) a.starting (take c.transactions-n.result a.order))) log))
